@@ -46,7 +46,7 @@ fn run<H: Host, S: Sink, C: Clock, L: Ledger>(
     batch20(rt.alloc(), words, host, screen, clock, &mut steps)
 }
 
-// The words behind the program's name. They are too many where the system cannot tell them.
+// The words after the program's name. They are too many where the system cannot tell them.
 fn given_words(rt: &(impl Env + Alloc)) -> Words {
     let Ok(args) = env::args(rt) else {
         return Words::untold();

@@ -35,7 +35,7 @@ use Rattle.cm_blocks.specs.declared.node.Node.{Node}
 use Rattle.cm_blocks.specs.Chain.{Counted, at_node, by_default, chain_at, default_place, default_rest, defaulted, is_confirm, is_line_end, on_default, on_text, or_later, past_skip, typed, walk}
 use Rattle.cm_blocks.specs.Fault.{grammar_fault, has_phrase}
 use Rattle.cm_blocks.specs.Grammar.{Graph}
-use Rattle.cm_blocks.specs.Keyword.{behind_slash, entry_position, has_colon, key_value, named_switch, switch}
+use Rattle.cm_blocks.specs.Keyword.{after_slash, entry_position, has_colon, key_value, named_switch, switch}
 use Rattle.cm_blocks.specs.Parse.{IsClosed, Parse, after_chain, ending_of, parse_from, parse_of}
 use Rattle.cm_blocks.specs.Setting.{Setting}
 use Rattle.cm_blocks.specs.FieldView.{FieldView}
@@ -50,7 +50,7 @@ named_decides table at size most colon (Err code) within inside = tt
 named_decides table at size most colon (Ok position) within inside =
     cond_both (has_colon table position) _ _ (Decides at (1 + most)) (λ _. cond_both colon _ _ (Decides at (1 + most)) (λ is. let before = inside is in omega arith) (λ _. tt)) (λ _. omega arith)
 
-slash_decides : (table : List Entry) (line : List ℕ) (at : ℕ) → Decides at (1 + length line) (behind_slash table (finished line) at)
+slash_decides : (table : List Entry) (line : List ℕ) (at : ℕ) → Decides at (1 + length line) (after_slash table (finished line) at)
 unfolding is_word
 slash_decides table line at =
     let size = prefix_len is_word (finished line) in
@@ -62,8 +62,8 @@ switch_decides : (table : List Entry) → DecidesFinished (switch table)
 switch_decides table [] at = tt
 switch_decides table (byte ∷ line) at =
     let size : 1 + length line ≡ length (byte ∷ line) = omega arith in
-    let behind = slash_decides table line at in
-    cond_both (byte == 47) _ _ (Decides at (length (byte ∷ line))) (λ _. rw (← size) behind) (λ _. tt)
+    let after = slash_decides table line at in
+    cond_both (byte == 47) _ _ (Decides at (length (byte ∷ line))) (λ _. rw (← size) after) (λ _. tt)
 
 -- a printing byte is not the end of the line, in either case
 shown_differs : (byte : ℕ) → is_shown_byte byte ≡ true → not (same_letter byte 13) ≡ true
@@ -197,11 +197,11 @@ closed_from s none line (suc room) node at within =
     by (chain_at s node (finished line) at).chain (chain_decides s node line at none within)
     (λ field near. closed_from s none line room field.next field.end near)
   where
-    behind : FieldView → Parse
-    behind field = parse_from s (finished line) room field.next field.end
+    after : FieldView → Parse
+    after field = parse_from s (finished line) room field.next field.end
 
     by : (answer : Chain) → ChainDecides (length line) answer
-        → ((field : FieldView) → field.end ≤ length line → IsClosed (behind field).ending) → IsClosed (after_chain behind answer).ending
+        → ((field : FieldView) → field.end ≤ length line → IsClosed (after field).ending) → IsClosed (after_chain after answer).ending
     by (chain.Field field) decided later = later field decided
     by (chain.Done place) decided later = tt
     by (chain.Fault fault) decided later = tt

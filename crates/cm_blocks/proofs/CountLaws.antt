@@ -1,7 +1,7 @@
 -- A parse makes a chain trial for each of its fields, and one more.
 use Rattle.std.proofs.Common.{◌≡◌, ℕ, zero, suc, ◌+◌, ◌≤◌, List, length, refl, arith}
 use Rattle.cm_blocks.specs.Chain.{chain_at}
-use Rattle.cm_blocks.specs.Count.{trials_behind, trials_from, trials_of}
+use Rattle.cm_blocks.specs.Count.{trials_after, trials_from, trials_of}
 use Rattle.cm_blocks.specs.FieldView.{FieldView}
 use Rattle.cm_blocks.specs.Parse.{Parse, after_chain, parse_from, parse_of}
 use Rattle.cm_blocks.specs.Setting.{Setting}
@@ -19,11 +19,11 @@ count_from s text (suc room) node at =
     trials : FieldView → ℕ
     trials field = trials_from s text room field.next field.end
 
-    behind : FieldView → Parse
-    behind field = parse_from s text room field.next field.end
+    after : FieldView → Parse
+    after field = parse_from s text room field.next field.end
 
-    by : (answer : Chain) → ((field : FieldView) → trials field ≡ length (behind field).fields + 1)
-        → 1 + trials_behind trials answer ≡ length (after_chain behind answer).fields + 1
+    by : (answer : Chain) → ((field : FieldView) → trials field ≡ length (after field).fields + 1)
+        → 1 + trials_after trials answer ≡ length (after_chain after answer).fields + 1
     by (chain.Field field) later = let rest = later field in omega (arith, rest)
     by (chain.Done place) later = refl
     by (chain.Fault fault) later = refl

@@ -1,4 +1,4 @@
--- The fields that are kept of an old text are the first fields of the new one, and the parse goes on behind them.
+-- The fields that are kept of an old text are the first fields of the new one, and the parse goes on after them.
 use Rattle.std.proofs.Common.{◌≡◌, ℕ, zero, suc, ◌-◌, ◌<◌, ◌≤◌, ◌==◌, Bool, true, false, nat_le, if◌then◌else◌, List, [], ◌∷◌, ◌++◌, length, None, refl, ap, sym, subst, ◌∙◌, arith, length-append}
 use Rattle.std.proofs.lemmas.Bool.Decides.{nat_tests}
 use Rattle.cm_blocks.specs.declared.field.Chain.{Chain}
@@ -6,8 +6,8 @@ use Rattle.cm_blocks.specs.declared.field.Chain.TheVariants as chain
 use Rattle.cm_blocks.specs.declared.field.TheConstants.{FIELD_LIMIT}
 use Rattle.cm_blocks.specs.Chain.{ChainLeads, Leads, chain_at}
 use Rattle.cm_blocks.specs.Fault.{grammar_fault}
-use Rattle.cm_blocks.specs.Kept.{BeginsWith, common, kept, needing}
-use Rattle.cm_blocks.specs.Parse.{Parse, after_chain, node_behind, parse_from, parse_of, place_behind, with_fields}
+use Rattle.cm_blocks.specs.KeptParse.{BeginsWith, common, decided_within, kept}
+use Rattle.cm_blocks.specs.Parse.{Parse, after_chain, node_after, parse_from, parse_of, place_after, with_fields}
 use Rattle.cm_blocks.specs.Setting.{Setting}
 use Rattle.cm_blocks.specs.FieldView.{FieldView}
 use Rattle.cm_blocks.proofs.Needs.{chain_keeps}
@@ -43,14 +43,14 @@ parts (byte ∷ old) (letter ∷ new) = by (byte == letter) refl (parts old new)
     by false is later =
         record { front = []; more = byte ∷ old; other = letter ∷ new; old_is = refl; new_is = refl; size = rw is refl }
 
--- the parse of a text is these fields, few enough, and what comes behind them; they lie within so many bytes, and
+-- the parse of a text is these fields, few enough, and what comes after them; they lie within so many bytes, and
 -- lead to one of so many nodes
 pub record GoesOn (s : Setting) (text : List ℕ) (room node at size : ℕ) (fields : List FieldView) : Type 0 where
   pub few : length fields ≤ room
-  pub leads : node < length s.graph.nodes → node_behind node fields < length s.graph.nodes
-  pub place : place_behind at fields ≤ size
+  pub leads : node < length s.graph.nodes → node_after node fields < length s.graph.nodes
+  pub place : place_after at fields ≤ size
   pub parse : parse_from s text room node at
-      ≡ with_fields fields (parse_from s text (room - length fields) (node_behind node fields) (place_behind at fields))
+      ≡ with_fields fields (parse_from s text (room - length fields) (node_after node fields) (place_after at fields))
 
 no_fields : (s : Setting) (text : List ℕ) (room node at size : ℕ) → at ≤ size → GoesOn s text room node at size []
 no_fields s text room node at size within =
@@ -74,11 +74,11 @@ one_field s text room node at size field fields is next later =
       parse =
           ap (after_chain (λ (field : FieldView). parse_from s text room field.next field.end)) is
           ∙ ap (with_fields (field ∷ [])) later.parse
-          ∙ ap (λ (left : ℕ). with_fields (field ∷ fields) (parse_from s text left (node_behind field.next fields) (place_behind field.end fields))) left;
+          ∙ ap (λ (left : ℕ). with_fields (field ∷ fields) (parse_from s text left (node_after field.next fields) (place_after field.end fields))) left;
     }
 
 keeps_from : (s : Setting) → grammar_fault s.graph ≡ None → (front more other : List ℕ) (room node at : ℕ) → at ≤ length front
-    → GoesOn s (front ++ other) room node at (length front) (needing (length front) (parse_from s (front ++ more) room node at).fields)
+    → GoesOn s (front ++ other) room node at (length front) (decided_within (length front) (parse_from s (front ++ more) room node at).fields)
 keeps_from s none front more other zero node at within = no_fields s (front ++ other) zero node at (length front) within
 keeps_from s none front more other (suc room) node at within =
     by (chain_at s node (front ++ more) at).chain refl
@@ -90,18 +90,18 @@ keeps_from s none front more other (suc room) node at within =
     stop : GoesOn s (front ++ other) (suc room) node at (length front) []
     stop = no_fields s (front ++ other) (suc room) node at (length front) within
 
-    behind : FieldView → Parse
-    behind field = parse_from s (front ++ more) room field.next field.end
+    after : FieldView → Parse
+    after field = parse_from s (front ++ more) room field.next field.end
 
     by : (answer : Chain) → (chain_at s node (front ++ more) at).chain ≡ answer
         → ((field : FieldView) → field.end ≤ length front → GoesOn s (front ++ other) room field.next field.end (length front)
-        (needing (length front) (behind field).fields))
-        → GoesOn s (front ++ other) (suc room) node at (length front) (needing (length front) (after_chain behind answer).fields)
+        (decided_within (length front) (after field).fields))
+        → GoesOn s (front ++ other) (suc room) node at (length front) (decided_within (length front) (after_chain after answer).fields)
     by (chain.Field field) is later = choice (nat_le field.need (length front)) refl
       where
         choice : (test : Bool) → nat_le field.need (length front) ≡ test
             → GoesOn s (front ++ other) (suc room) node at (length front)
-            (if test then field ∷ needing (length front) (behind field).fields else [])
+            (if test then field ∷ decided_within (length front) (after field).fields else [])
         choice false test = stop
         choice true test =
             let needs : field.need ≤ length front = grind (arith, nat_tests) in
@@ -120,8 +120,8 @@ kept_goes_on s none node old new =
     let apart = parts old new in
     let whole = keeps_from s none apart.front apart.more apart.other FIELD_LIMIT node 0 (omega arith) in
     rw apart.size
-    (subst (λ (text : List ℕ). GoesOn s new FIELD_LIMIT node 0 (length apart.front) (needing (length apart.front) (parse_from s text FIELD_LIMIT node 0).fields)) (sym apart.old_is)
-    (subst (λ (text : List ℕ). GoesOn s text FIELD_LIMIT node 0 (length apart.front) (needing (length apart.front) (parse_from s (apart.front ++ apart.more) FIELD_LIMIT node 0).fields)) (sym apart.new_is) whole))
+    (subst (λ (text : List ℕ). GoesOn s new FIELD_LIMIT node 0 (length apart.front) (decided_within (length apart.front) (parse_from s text FIELD_LIMIT node 0).fields)) (sym apart.old_is)
+    (subst (λ (text : List ℕ). GoesOn s text FIELD_LIMIT node 0 (length apart.front) (decided_within (length apart.front) (parse_from s (apart.front ++ apart.more) FIELD_LIMIT node 0).fields)) (sym apart.new_is) whole))
 
 pub kept_begins : (s : Setting) → grammar_fault s.graph ≡ None → (node : ℕ) (old new : List ℕ)
     → BeginsWith (kept s node old new) (parse_of s node new).fields

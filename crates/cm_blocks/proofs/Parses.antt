@@ -1,4 +1,4 @@
--- Each text has exactly one parse, and the parse of the empty line is open at the first block.
+-- [key-parse] Each text has exactly one parse, and the parse of the empty line is open at the first block.
 use Rattle.std.proofs.Common.{◌≡◌, ℕ, zero, suc, ◌<◌, ◌==◌, true, false, List, [], ◌∷◌, length, Option, Some, None, slice_get, get_or, refl, ap, sym, subst, ◌∙◌, arith}
 use Rattle.std.proofs.lemmas.Bool.Decides.{nat_tests}
 use Rattle.cm_fields.specs.declared.code.Code.{Code}
@@ -32,12 +32,12 @@ parses_from s text zero node at =
 parses_from s text (suc room) node at =
     by (chain_at s node text at).chain refl (λ field. parses_from s text room field.next field.end)
   where
-    behind : FieldView → Parse
-    behind field = parse_from s text room field.next field.end
+    after : FieldView → Parse
+    after field = parse_from s text room field.next field.end
 
     by : (answer : Chain) → (chain_at s node text at).chain ≡ answer
-        → ((field : FieldView) → Parses s text room field.next field.end (behind field).fields (behind field).ending)
-        → Parses s text (suc room) node at (after_chain behind answer).fields (after_chain behind answer).ending
+        → ((field : FieldView) → Parses s text room field.next field.end (after field).fields (after field).ending)
+        → Parses s text (suc room) node at (after_chain after answer).fields (after_chain after answer).ending
     by (chain.Field field) is later =
         let rest = later field in
         record {

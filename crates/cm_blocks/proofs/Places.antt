@@ -27,7 +27,7 @@ use Rattle.cm_files.specs.Fields.{directory_of, directory_read, file_of, file_re
 use Rattle.cm_files.specs.Resolve.{by_device, by_directory, has_wild, refuse, resolve, then_in}
 use Rattle.cm_files.specs.Spec.{by_parts, generation_of, is_long, numbered, part_or_nothing, parts_of, read_spec}
 
--- an accepted run is decided by its bytes, and ends behind them
+-- an accepted run is decided by its bytes, and ends after them
 pub record IsRun (is_part : ℕ → Bool) (decide : List ℕ → Result Value Code) (rest : List ℕ) (at : ℕ) (value : Value) (end : ℕ) : Type 0 where
   pub ends : (prefix_len is_part rest == length rest) ≡ false
   pub decided : decide (take (prefix_len is_part rest) rest) ≡ Ok value

@@ -18,16 +18,16 @@ use Rattle.cm_fields.specs.declared.trial.Try.TheVariants.{Accept, Refuse}
 use Rattle.cm_fields.specs.declared.value.Value.{Value}
 use Rattle.cm_fields.specs.Local.{Holds, IsLocal, IsSeen}
 use Rattle.cm_fields.proofs.Trials.{LooksBeyond, Reaches, ReachesIfAccept, holds_beyond, holds_both, holds_same, is_local, reaches_accepted}
-use Rattle.cm_blocks.specs.Keyword.{behind_slash, entry_position, has_colon, named_switch, switch}
+use Rattle.cm_blocks.specs.Keyword.{after_slash, entry_position, has_colon, named_switch, switch}
 
--- what the byte behind a run of this size says with it
+-- what the byte after a run of this size says with it
 abbrev switch_said : List Entry → List ℕ → ℕ → ℕ → Try
 switch_said table rest size at =
     named_switch table at size (option_map_or (λ byte. byte == 58) (slice_get rest size) false)
     (entry_position table (take size rest))
 
 switch_inside : (table : List Entry) (front more : List ℕ) (at : ℕ) → prefix_len is_word front < length front
-    → behind_slash table (front ++ more) at ≡ switch_said table front (prefix_len is_word front) at
+    → after_slash table (front ++ more) at ≡ switch_said table front (prefix_len is_word front) at
 switch_inside table front more at ends =
     let whole = prefix_len_inside is_word front more ends in
     let other : (prefix_len is_word front == length (front ++ more)) ≡ false = grind (arith, nat_tests, length-append front more) in
@@ -44,12 +44,12 @@ named_holds P table at size colon (Ok position) with_colon plain refused =
     cond_both (has_colon table position) _ _ P (λ _. cond_both colon _ _ P (λ _. with_colon _) (λ _. refused NeedColon)) (λ _. plain _)
 
 switch_beyond : (most : ℕ) (table : List Entry) (rest : List ℕ) (at : ℕ) → most < prefix_len is_word rest + 2
-    → LooksBeyond most (behind_slash table rest at)
+    → LooksBeyond most (after_slash table rest at)
 switch_beyond most table rest at beyond =
     cond_both (prefix_len is_word rest == length rest) _ _ (LooksBeyond most) (λ _. tt) (λ _. named_holds (LooksBeyond most) table at (prefix_len is_word rest) _ _ (λ _. beyond) (λ _. beyond) (λ _. beyond))
 
 slash_decided : (table : List Entry) (front more other : List ℕ) (at : ℕ)
-    → Holds (1 + length front) (behind_slash table (front ++ more) at) (behind_slash table (front ++ other) at)
+    → Holds (1 + length front) (after_slash table (front ++ more) at) (after_slash table (front ++ other) at)
 slash_decided table front more other at =
     let size = prefix_len is_word front in
     by_test _ (size == length front)
@@ -72,7 +72,7 @@ switch_decided table (byte ∷ front) more other at =
     holds_both (length (byte ∷ front)) (byte == 47) _ (Refuse NotSwitch 1) _ (Refuse NotSwitch 1)
     (rw (← size) decided) (λ seen. refl)
 
-slash_seen : (table : List Entry) (rest : List ℕ) (at : ℕ) → IsSeen (1 + length rest) (behind_slash table rest at)
+slash_seen : (table : List Entry) (rest : List ℕ) (at : ℕ) → IsSeen (1 + length rest) (after_slash table rest at)
 slash_seen table rest at =
     let size = prefix_len is_word rest in
     let most = prefix_len-le-length is_word rest in
@@ -90,7 +90,7 @@ switch_seen table (byte ∷ rest) at =
 pub switch_is_local : (table : List Entry) → IsLocal (switch table)
 switch_is_local table = is_local (switch table) (switch_decided table) (switch_seen table)
 
-slash_reaches : (table : List Entry) (rest : List ℕ) (at : ℕ) → ReachesIfAccept at (1 + length rest) (behind_slash table rest at)
+slash_reaches : (table : List Entry) (rest : List ℕ) (at : ℕ) → ReachesIfAccept at (1 + length rest) (after_slash table rest at)
 slash_reaches table rest at =
     let size = prefix_len is_word rest in
     let most = prefix_len-le-length is_word rest in
@@ -108,7 +108,7 @@ switch_reaches_if table (byte ∷ rest) at =
     let reached = slash_reaches table rest at in
     cond_both (byte == 47) _ _ (ReachesIfAccept at (length (byte ∷ rest))) (λ _. rw (← size) reached) (λ _. tt)
 
--- an accepted switch ends in the text, and the byte behind its name was looked at
+-- an accepted switch ends in the text, and the byte after its name was looked at
 pub switch_reaches : (table : List Entry) (rest : List ℕ) (at : ℕ) (value : Value) (looked end : ℕ)
     → switch table rest at ≡ Accept value looked end → Reaches at (length rest) looked end
 switch_reaches table rest at value looked end is =

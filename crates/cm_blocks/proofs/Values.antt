@@ -25,7 +25,7 @@ use Rattle.cm_fields.specs.Phrase.{is_inside, noise, typed_noise}
 use Rattle.cm_fields.specs.Quoted.{by_closing, closing, is_cut, quoted}
 use Rattle.cm_files.specs.declared.flags.Flags.{Flags}
 use Rattle.cm_files.specs.Catalogue.{Catalogue}
-use Rattle.cm_files.specs.Fields.{directory_of, file_of, has_colon_behind, is_file, is_plain_path, user_of}
+use Rattle.cm_files.specs.Fields.{directory_of, file_of, has_colon_after, is_file, is_plain_path, user_of}
 use Rattle.cm_hooks.specs.declared.answer.Answer.{Answer}
 use Rattle.cm_hooks.specs.declared.answer.Answer.TheVariants.{Yes, No, NoBecause}
 use Rattle.cm_hooks.specs.Field.{hook_of, judged}
@@ -170,24 +170,24 @@ guide_said phrase (byte ∷ rest) at =
     cond_each (IfAccept is_guide) (byte == 40) (typed_noise phrase rest at) (Accept (values.Noise false) 1 at)
     (typed_guide phrase rest at) refl
 
--- what stands behind an opening quote
-quoted_behind : (at size written : ℕ) (rest : List ℕ) → IfAccept is_quoted (by_closing at (closing size written rest))
-quoted_behind at size written [] = tt
-quoted_behind at size written (byte ∷ []) =
+-- what stands after an opening quote
+quoted_after : (at size written : ℕ) (rest : List ℕ) → IfAccept is_quoted (by_closing at (closing size written rest))
+quoted_after at size written [] = tt
+quoted_after at size written (byte ∷ []) =
     cond_each (λ found. IfAccept is_quoted (by_closing at found)) (is_cut byte) _ _ tt tt
-quoted_behind at size written (byte ∷ next ∷ more) =
+quoted_after at size written (byte ∷ next ∷ more) =
     cond_each (λ found. IfAccept is_quoted (by_closing at found)) (is_cut byte) _ _ tt
     (cond_each (λ found. IfAccept is_quoted (by_closing at found)) (byte == 34) _ _
     (cond_each (λ found. IfAccept is_quoted (by_closing at found)) (next == 34) _ _
-    (quoted_behind at (size + 2) (written + 1) more)
+    (quoted_after at (size + 2) (written + 1) more)
     (cond_each (IfAccept is_quoted) (nat_le written NAME_LIMIT) _ _ refl tt))
-    (quoted_behind at (size + 1) (written + 1) (next ∷ more)))
+    (quoted_after at (size + 1) (written + 1) (next ∷ more)))
 
 quoted_said : (rest : List ℕ) (at : ℕ) → IfAccept is_quoted (quoted rest at)
 quoted_said [] at = tt
 quoted_said (byte ∷ rest) at =
     cond_each (IfAccept is_quoted) (byte == 34) (by_closing at (closing 0 0 rest)) (Refuse NotQuoted 1)
-    (quoted_behind at 0 0 rest) tt
+    (quoted_after at 0 0 rest) tt
 
 directory_said : (new : Bool) (c : Catalogue) (at : ℕ) (run : List ℕ) (spec : Spec) (meant : ℕ) (value : Value)
     → SaysDirectory new c at run spec meant value → is_directory value ≡ true
@@ -213,8 +213,8 @@ trial_says s (functions.Token phrase) flags rest at value looked end on is =
 trial_says s functions.Quoted flags rest at value looked end on is =
     subst (IfAccept is_quoted) is (quoted_said rest at)
 trial_says s functions.User flags rest at value looked end on is =
-    let run = run_of is_plain_path (user_of s.catalogue (has_colon_behind rest)) rest at value looked end is in
-    ap is_directory (user_says s.catalogue (has_colon_behind rest) _ value run.decided).2
+    let run = run_of is_plain_path (user_of s.catalogue (has_colon_after rest)) rest at value looked end is in
+    ap is_directory (user_says s.catalogue (has_colon_after rest) _ value run.decided).2
 trial_says s functions.Directory flags rest at value looked end on is =
     let run = run_of is_file (directory_of flags.new s.catalogue at) rest at value looked end is in
     let it = directory_says flags.new s.catalogue at _ value run.decided in

@@ -146,29 +146,29 @@ walk_leads s rest at number looked code (block ∷ more) well some =
 -- what a chain takes from the text, or from the default, leads on
 pub typed_leads : (nodes at size number start most : ℕ) (walked : Walk) → at ≤ start → start + most ≤ size
     → WalkLeads nodes start most walked → ChainLeads nodes at size (typed number start walked)
-typed_leads nodes at size number start most (Takes block role next value looked end) behind within leads =
+typed_leads nodes at size number start most (Takes block role next value looked end) after within leads =
     let reached = leads.1 in
     cond_each (ChainLeads nodes at size) (is_confirm value) _ _ tt
-    (record { next = leads.0; start = behind; end = reached.begins; within = omega arith; need = omega arith; covered = reached.seen })
-typed_leads nodes at size number start most (Wants block) behind within leads = tt
-typed_leads nodes at size number start most (Fails code) behind within leads = tt
+    (record { next = leads.0; start = after; end = reached.begins; within = omega arith; need = omega arith; covered = reached.seen })
+typed_leads nodes at size number start most (Wants block) after within leads = tt
+typed_leads nodes at size number start most (Fails code) after within leads = tt
 
 pub defaulted_leads : (nodes at size number start from most : ℕ) (walked : Walk) → at ≤ start → start ≤ size
     → WalkLeads nodes from most walked → ChainLeads nodes at size (defaulted number start walked)
-defaulted_leads nodes at size number start from most (Takes block role next value looked end) behind within leads =
+defaulted_leads nodes at size number start from most (Takes block role next value looked end) after within leads =
     cond_each (ChainLeads nodes at size) (is_confirm value) _ _ tt
-    (record { next = leads.0; start = behind; end = omega arith; within = within; need = omega arith; covered = omega arith })
-defaulted_leads nodes at size number start from most (Wants block) behind within leads = tt
-defaulted_leads nodes at size number start from most (Fails code) behind within leads = tt
+    (record { next = leads.0; start = after; end = omega arith; within = within; need = omega arith; covered = omega arith })
+defaulted_leads nodes at size number start from most (Wants block) after within leads = tt
+defaulted_leads nodes at size number start from most (Fails code) after within leads = tt
 
 -- where a walk from a place of the text leads
 pub text_leads : (s : Setting) (number : ℕ) (node : Node) (text : List ℕ) (at start : ℕ) → IsWell s.graph node
     → 0 < length s.graph.nodes → at ≤ start → start ≤ length text → (looked : ℕ) (code : Code)
     → ChainLeads (length s.graph.nodes) at (length text)
     (typed number start (walk s (drop start text) start 0 looked code node.chain))
-text_leads s number node text at start well some behind within looked code =
+text_leads s number node text at start well some after within looked code =
     let size = length-drop start text in
-    typed_leads _ at (length text) number start (length (drop start text)) _ behind (omega arith)
+    typed_leads _ at (length text) number start (length (drop start text)) _ after (omega arith)
     (walk_leads s (drop start text) start 0 looked code node.chain well.blocks some)
 
 -- where a walk over the default leads, at a place where the line ends
@@ -176,8 +176,8 @@ pub default_leads : (s : Setting) (number : ℕ) (node : Node) (at start size : 
     → 0 < length s.graph.nodes → at ≤ start → start ≤ size → (looked : ℕ) (code : Code)
     → ChainLeads (length s.graph.nodes) at size
     (defaulted number start (walk s (default_rest node.raw text) (default_place node.raw text) 0 looked code node.chain))
-default_leads s number node at start size text well some behind within looked code =
-    defaulted_leads _ at size number start (default_place node.raw text) (length (default_rest node.raw text)) _ behind within
+default_leads s number node at start size text well some after within looked code =
+    defaulted_leads _ at size number start (default_place node.raw text) (length (default_rest node.raw text)) _ after within
     (walk_leads s (default_rest node.raw text) (default_place node.raw text) 0 looked code node.chain well.blocks some)
 
 -- a grammar has a node
@@ -192,11 +192,11 @@ some_node graph place node found = by graph.nodes found
 pub choice_leads : (s : Setting) (number : ℕ) (node : Node) (text : List ℕ) (at start : ℕ) (default : Option (List ℕ))
     → IsWell s.graph node → 0 < length s.graph.nodes → at ≤ start → start ≤ length text
     → ChainLeads (length s.graph.nodes) at (length text) (by_default s number node (drop start text) start default).chain
-choice_leads s number node text at start None well some behind within = text_leads s number node text at start well some behind within 0 _
-choice_leads s number node text at start (Some default) well some behind within =
+choice_leads s number node text at start None well some after within = text_leads s number node text at start well some after within 0 _
+choice_leads s number node text at start (Some default) well some after within =
     cond_each (λ (counted : Counted). ChainLeads (length s.graph.nodes) at (length text) counted.chain) (is_line_end (drop start text)) _ _
-    (default_leads s number node at start (length text) default well some behind within 0 _)
-    (text_leads s number node text at start well some behind within 0 _)
+    (default_leads s number node at start (length text) default well some after within 0 _)
+    (text_leads s number node text at start well some after within 0 _)
 
 node_leads : (s : Setting) (number : ℕ) (node : Node) (text : List ℕ) (at : ℕ) → IsWell s.graph node
     → 0 < length s.graph.nodes → at ≤ length text

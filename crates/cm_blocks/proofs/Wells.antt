@@ -16,7 +16,7 @@ use Rattle.cm_blocks.specs.Fault.{grammar_fault, has_flags, has_phrase, has_size
 use Rattle.cm_blocks.specs.Grammar.{Graph}
 use Rattle.cm_blocks.specs.Well.{IsWell}
 
--- a test that gives no fault is passed, and what comes behind it gives none
+-- a test that gives no fault is passed, and what comes after it gives none
 record Passes (test : Bool) (rest : Option GrammarFault) : Type 0 where
   passed : test ≡ true
   none : rest ≡ None

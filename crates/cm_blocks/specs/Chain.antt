@@ -48,7 +48,7 @@ IsNear (Takes block role next value looked end) = looked ≤ TEXT_LIMIT
 IsNear (Wants block) = Unit {0}
 IsNear (Fails code) = Unit {0}
 
--- nothing behind a block that does not refuse
+-- nothing after a block that does not refuse
 abbrev pub or_stop : Try → ℕ → ℕ
 or_stop (Accept value looked end) later = 0
 or_stop (Refuse code looked) later = later
@@ -111,7 +111,7 @@ default_place raw text = unwrap_or (skip raw (finished text) 0) 0
 abbrev pub default_rest : Bool → List ℕ → List ℕ
 default_rest raw text = drop (default_place raw text) (finished text)
 
--- the blocks on the default
+-- [default] the blocks on the default
 abbrev pub on_default : Setting → ℕ → Node → ℕ → List ℕ → Counted
 on_default s number node start text = record {
   chain = defaulted number start
@@ -145,7 +145,7 @@ at_node s number text at (Some node) = past_skip s number node text at (skip nod
 unfoldable pub chain_at : Setting → ℕ → List ℕ → ℕ → Counted
 chain_at s number text at = at_node s number text at (slice_get s.graph.nodes number)
 
--- a field leads to a node of the grammar, lies behind the place and in the text, and needs its own bytes
+-- a field leads to a node of the grammar, lies after the place and in the text, and needs its own bytes
 pub record Leads (nodes at size : ℕ) (field : FieldView) : Type 0 where
   pub next : field.next < nodes
   pub start : at ≤ field.start

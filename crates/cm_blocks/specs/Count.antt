@@ -7,18 +7,18 @@ use Rattle.cm_blocks.specs.declared.field.Chain.{Chain}
 use Rattle.cm_blocks.specs.declared.field.Chain.TheVariants as chain
 use Rattle.cm_blocks.specs.declared.field.TheConstants.{FIELD_LIMIT}
 
--- how many follow the answer of a trial: those behind its field, or none
-abbrev pub trials_behind : (FieldView → ℕ) → Chain → ℕ
-trials_behind behind (chain.Field field) = behind field
-trials_behind behind (chain.Done place) = 0
-trials_behind behind (chain.Fault fault) = 0
-trials_behind behind (chain.Open place) = 0
+-- how many follow the answer of a trial: those after its field, or none
+abbrev pub trials_after : (FieldView → ℕ) → Chain → ℕ
+trials_after after (chain.Field field) = after field
+trials_after after (chain.Done place) = 0
+trials_after after (chain.Fault fault) = 0
+trials_after after (chain.Open place) = 0
 
 -- from a node and a place on, with room for so many fields: the trial there, and those that follow it
 abbrev pub trials_from : Setting → List ℕ → ℕ → ℕ → ℕ → ℕ
 trials_from s text zero node at = 1
 trials_from s text (suc room) node at =
-    1 + trials_behind (λ field. trials_from s text room field.next field.end) (chain_at s node text at).chain
+    1 + trials_after (λ field. trials_from s text room field.next field.end) (chain_at s node text at).chain
 
 -- the trials of the parse of a text from a node on
 unfoldable pub trials_of : Setting → ℕ → List ℕ → ℕ

@@ -93,7 +93,7 @@ has_size graph =
     nat_lt 0 (length graph.nodes) && nat_le (length graph.nodes) NODE_LIMIT
     && nat_le (length graph.tables) TABLE_LIMIT
 
--- the first fault of all
+-- [grammar-fault] the first fault of all
 unfoldable pub grammar_fault : Graph → Option GrammarFault
 grammar_fault graph =
     if not (has_size graph) then Some TooMany

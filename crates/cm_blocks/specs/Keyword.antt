@@ -50,9 +50,9 @@ named_switch table at size colon (Ok position) =
     else Accept (Switch position (code_at table position)) (size + 2) (at + (size + 1))
 named_switch table at size colon (Err code) = Refuse code (size + 2)
 
--- behind the slash
-abbrev pub behind_slash : List Entry → List ℕ → ℕ → Try
-behind_slash table rest at =
+-- after the slash
+abbrev pub after_slash : List Entry → List ℕ → ℕ → Try
+after_slash table rest at =
     let size = prefix_len is_word rest in
     if size == length rest then More
     else named_switch table at size (option_map_or (λ byte. byte == 58) (slice_get rest size) false)
@@ -60,4 +60,4 @@ behind_slash table rest at =
 
 abbrev pub switch : List Entry → List ℕ → ℕ → Try
 switch table [] at = More
-switch table (byte ∷ rest) at = if byte == 47 then behind_slash table rest at else Refuse NotSwitch 1
+switch table (byte ∷ rest) at = if byte == 47 then after_slash table rest at else Refuse NotSwitch 1

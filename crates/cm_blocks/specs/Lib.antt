@@ -1,12 +1,12 @@
 pub mod Chain
+pub mod Count
 pub mod Fault
+pub mod FieldView
 pub mod Grammar
-pub mod Kept
+pub mod KeptParse
 pub mod Keyword
 pub mod Parse
 pub mod Setting
-pub mod FieldView
 pub mod Trial
 pub mod Well
 pub mod Words
-pub mod Count

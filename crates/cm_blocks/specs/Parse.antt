@@ -1,4 +1,4 @@
--- The parse of a whole text: its fields, and what stands behind the last.
+-- The parse of a whole text: its fields, and what stands after the last.
 use Rattle.std.specs.Prelude.{◌≡◌, ℕ, zero, suc, ◌<◌, ◌≤◌, List, [], ◌∷◌, ◌++◌, length, Some}
 use Rattle.cm_fields.specs.declared.code.Code.TheVariants.{TooMany}
 use Rattle.cm_blocks.specs.declared.field.Chain.{Chain}
@@ -21,16 +21,16 @@ ending_of (chain.Done place) = ending.Done
 ending_of (chain.Fault fault) = ending.Fault fault
 ending_of (chain.Open place) = ending.Open place
 
--- behind these fields the parse goes on so
+-- after these fields the parse goes on so
 abbrev pub with_fields : List FieldView → Parse → Parse
 with_fields fields parse = record { fields = fields ++ parse.fields; ending = parse.ending }
 
--- the parse after a chain has answered: its field and what comes behind it, or the ending
+-- the parse after a chain has answered: its field and what comes after it, or the ending
 abbrev pub after_chain : (FieldView → Parse) → Chain → Parse
-after_chain behind (chain.Field field) = with_fields (field ∷ []) (behind field)
-after_chain behind (chain.Done place) = record { fields = []; ending = ending.Done }
-after_chain behind (chain.Fault fault) = record { fields = []; ending = ending.Fault fault }
-after_chain behind (chain.Open place) = record { fields = []; ending = ending.Open place }
+after_chain after (chain.Field field) = with_fields (field ∷ []) (after field)
+after_chain after (chain.Done place) = record { fields = []; ending = ending.Done }
+after_chain after (chain.Fault fault) = record { fields = []; ending = ending.Fault fault }
+after_chain after (chain.Open place) = record { fields = []; ending = ending.Open place }
 
 -- the parse from a node and a place on, with room for so many fields
 abbrev pub parse_from : Setting → List ℕ → ℕ → ℕ → ℕ → Parse
@@ -38,20 +38,20 @@ parse_from s text zero node at = record { fields = []; ending = ending_of (chain
 parse_from s text (suc room) node at =
     after_chain (λ field. parse_from s text room field.next field.end) (chain_at s node text at).chain
 
--- the parse of a text from a node on
+-- [key-parse] the parse of a text from a node on
 unfoldable pub parse_of : Setting → ℕ → List ℕ → Parse
 parse_of s node text = parse_from s text FIELD_LIMIT node 0
 
--- the node and the place behind fields, or those from which they are sought
-abbrev pub node_behind : ℕ → List FieldView → ℕ
-node_behind node [] = node
-node_behind node (field ∷ fields) = node_behind field.next fields
+-- the node and the place after fields, or those from which they are sought
+abbrev pub node_after : ℕ → List FieldView → ℕ
+node_after node [] = node
+node_after node (field ∷ fields) = node_after field.next fields
 
-abbrev pub place_behind : ℕ → List FieldView → ℕ
-place_behind at [] = at
-place_behind at (field ∷ fields) = place_behind field.end fields
+abbrev pub place_after : ℕ → List FieldView → ℕ
+place_after at [] = at
+place_after at (field ∷ fields) = place_after field.end fields
 
--- each field is what the chain answers behind the one before
+-- each field is what the chain answers after the one before
 abbrev pub Follow : Setting → List ℕ → ℕ → ℕ → List FieldView → Type 0
 Follow s text node at [] = Unit {0}
 Follow s text node at (field ∷ fields) =
@@ -69,9 +69,9 @@ pub record Parses (s : Setting) (text : List ℕ) (room node at : ℕ) (fields :
     : Type 0 where
   pub few : length fields ≤ room
   pub follow : Follow s text node at fields
-  pub ending : ends ≡ ending_of (chain_at s (node_behind node fields) text (place_behind at fields)).chain
+  pub ending : ends ≡ ending_of (chain_at s (node_after node fields) text (place_after at fields)).chain
   pub last : length fields < room
-      → IsLast (chain_at s (node_behind node fields) text (place_behind at fields)).chain
+      → IsLast (chain_at s (node_after node fields) text (place_after at fields)).chain
 
 -- the fields and the ending are the parse of the whole text
 abbrev pub IsParse : Setting → ℕ → List ℕ → List FieldView → Ending → Type 0

@@ -92,7 +92,7 @@ fn walk_blocks<N: Names, R: Rules, L: Ledger>(
     Walk::Fails { code }
 }
 
-// The place behind a field: that of a default has no bytes.
+// The place after a field: that of a default has no bytes.
 fn end_of(on_default: bool, start: u16, end: u16) -> u16
     ensures { result ≡ (if on_default then start else end) }
 {
@@ -229,6 +229,7 @@ pub fn try_chain<N: Names, R: Rules, L: Ledger>(
     requires node { node < length grammar.now.nodes }
     requires short { length text.now ≤ TEXT_LIMIT }
     requires place { at ≤ length text.now }
+    // [default]
     ensures value { result
         ≡ (chain_at (setting grammar.now (N.catalogue names.now) (R.meanings rules.now)) node text.now at).chain }
     ensures steps { steps.new ≡ steps.old

@@ -71,7 +71,7 @@ impl Field {
         self.start
     }
 
-    /// The place behind it; of a defaulted field its start.
+    /// The place after it; of a defaulted field its start.
     pub fn end(&self) -> u16
         ensures { result ≡ self.now.end }
     {
@@ -142,7 +142,7 @@ pub enum Chain {
     Open(Open),
 }
 
-/// What stands behind the last field of a parse.
+/// What stands after the last field of a parse.
 #[derive(Clone, Copy, Debug, PartialEq, Eq)]
 pub enum Ending {
     /// The line may go on.

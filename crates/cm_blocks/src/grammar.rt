@@ -68,6 +68,7 @@ impl Grammar {
     /// the least node at fault its chain, tables, next nodes, texts and flags in this order, then that none
     /// confirms.
     pub fn new(nodes: Vec<Node>, tables: Vec<Table>) -> Result<Grammar, GrammarFault>
+        // [grammar-fault]
         ensures { MatchResult result
             (λ grammar. (grammar_fault grammar ≡ None)
             × (grammar ≡ record { nodes = nodes.items; tables = tables.items }))

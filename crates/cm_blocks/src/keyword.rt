@@ -1,6 +1,6 @@
 // Keywords and switches.
 ghost use Rattle.std.specs.Prelude.{◌≡◌, ◌≤◌, ◌<◌, ◌+◌, ◌^◌, IfOk, drop, length};
-ghost use Rattle.cm_blocks.specs.Keyword.{behind_slash, entry_position, key, named_switch, switch};
+ghost use Rattle.cm_blocks.specs.Keyword.{after_slash, entry_position, key, named_switch, switch};
 
 use cm_fields::{Code, Try, Value, said, word_run};
 use cm_tables::{Entry, Look, Table};
@@ -43,7 +43,7 @@ pub fn key(table: &Table, text: &[u8], at: usize) -> Try
     said(at, size, size + 1, Ok(Value::Key { entry, code }))
 }
 
-// What the name of a switch, a run of this size, says with the byte behind it, which may be a colon.
+// What the name of a switch, a run of this size, says with the byte after it, which may be a colon.
 fn named_switch(table: &Table, at: usize, size: usize, colon: bool, found: Result<u16, Code>) -> Try
     requires found { IfOk found (λ position. position < length table.now) }
     requires size { at + size < 2 ^ 15 }
@@ -68,10 +68,10 @@ fn named_switch(table: &Table, at: usize, size: usize, colon: bool, found: Resul
     }
 }
 
-// What stands behind a slash.
-fn behind_slash(table: &Table, rest: &[u8], at: usize) -> Try
+// What stands after a slash.
+fn after_slash(table: &Table, rest: &[u8], at: usize) -> Try
     requires { at + length rest.now < 2 ^ 15 }
-    ensures { result ≡ behind_slash table.now rest.now at }
+    ensures { result ≡ after_slash table.now rest.now at }
 {
     let size = word_run(rest);
     if size == rest.len() {
@@ -91,7 +91,7 @@ pub fn switch(table: &Table, text: &[u8], at: usize) -> Try
 {
     match &text[at..] {
         [] => Try::More,
-        [b'/', rest @ ..] => behind_slash(table, rest, at),
+        [b'/', rest @ ..] => after_slash(table, rest, at),
         _ => said(at, 0, 1, Err(Code::NotSwitch)),
     }
 }

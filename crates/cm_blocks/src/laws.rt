@@ -11,7 +11,7 @@ ghost use Rattle.cm_blocks.specs.declared.function.Function.{Function};
 ghost use Rattle.cm_blocks.specs.Chain.{chain_at};
 ghost use Rattle.cm_blocks.specs.Count.{trials_of};
 ghost use Rattle.cm_blocks.specs.Fault.{grammar_fault};
-ghost use Rattle.cm_blocks.specs.Kept.{BeginsWith, kept};
+ghost use Rattle.cm_blocks.specs.KeptParse.{BeginsWith, kept};
 ghost use Rattle.cm_blocks.specs.Parse.{IsClosed, IsParse, open_at, parse_of};
 ghost use Rattle.cm_blocks.specs.Setting.{Setting};
 ghost use Rattle.cm_blocks.specs.FieldView.{FieldView};

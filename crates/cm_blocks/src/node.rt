@@ -17,7 +17,7 @@ pub struct Block {
     pub help: Option<Name>,
     /// What its field is for.
     pub role: Role,
-    /// The node that follows its field; behind a keyword or a switch the entry's node follows.
+    /// The node that follows its field; after a keyword or a switch the entry's node follows.
     pub next: u16,
 }
 

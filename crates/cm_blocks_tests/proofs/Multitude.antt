@@ -6,7 +6,8 @@ use Rattle.std.proofs.lemmas.Bool.{and_from, le-leb, lt-ltb}
 use Rattle.cm_lists.proofs.Numbers.{nat_cmp_suc}
 use Rattle.cm_text.specs.Bytes.{is_name, is_word}
 use Rattle.cm_files.specs.declared.generation.TheConstants.{GENERATION_LIMIT}
-use Rattle.cm_files.specs.Catalogue.{IsCatalogue, ascends, by_file, is_row, rows_of}
+use Rattle.cm_lists.specs.Ascent.{ascends}
+use Rattle.cm_files.specs.Catalogue.{IsCatalogue, by_file, is_row, rows_of}
 use Rattle.cm_blocks_tests.specs.Many.{many_catalogue, many_from, many_row}
 
 ascend : (unmarked generation count : ℕ) → ascends by_file (many_from unmarked generation count) ≡ true

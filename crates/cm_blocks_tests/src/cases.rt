@@ -12,7 +12,7 @@ pub(crate) trait Subject {
 }
 
 // A value as `{:?}` shows it.
-pub(crate) fn told<D: Debug>(alloc: Global, value: &D) -> Result<String, Fail> {
+pub(crate) fn debug_text<D: Debug>(alloc: Global, value: &D) -> Result<String, Fail> {
     Ok(format!(in alloc; "{value:?}")?)
 }
 
@@ -62,7 +62,7 @@ pub(crate) struct Placed<'a> {
     pub at: usize,
 }
 
-// A number, and what is behind it and a blank.
+// A number, and what is after it and a blank.
 pub(crate) fn numbered(given: &str) -> Result<(u16, &str), Fail> {
     let (number, rest) = given.split_once(' ').ok_or("a number is given first")?;
     Ok((number.parse::<u16>()?, rest))
@@ -77,7 +77,7 @@ pub(crate) fn place_of(given: &str) -> Result<Placed<'_>, Fail>
     let text = text_of(rest)?;
     let at = usize::from(number);
     if at > text.len() {
-        return Err(Fail::new("the place is behind the text"));
+        return Err(Fail::new("the place is after the text"));
     }
     Ok(Placed { text, at })
 }

@@ -1,6 +1,6 @@
 // What a catalogue tells, to a generic caller.
 
-use crate::cases::{Subject, hold, numbered, told};
+use crate::cases::{Subject, debug_text, hold, numbered};
 use crate::sample::Sample;
 use cm_files::{Names, OneDirectory};
 use std::alloc::Global;
@@ -22,7 +22,7 @@ impl<'a, N: Names> Subject for Rows<'a, N> {
         } else {
             None
         };
-        told(
+        debug_text(
             alloc,
             &(self.0.directories(), self.0.directory(directory), row),
         )
@@ -35,7 +35,7 @@ struct LogicalNames<'a, N>(&'a N);
 
 impl<'a, N: Names> Subject for LogicalNames<'a, N> {
     fn answer(&self, alloc: Global, given: &str) -> Result<String, Fail> {
-        told(
+        debug_text(
             alloc,
             &(self.0.logical(given.as_bytes()), self.0.connected()),
         )

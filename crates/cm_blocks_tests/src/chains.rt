@@ -99,6 +99,7 @@ const OF_THE_DEFAULT: &str = "\
     12 0 \r => Field(Field { node: 12, block: 0, value: Key { entry: 1, code: 60 }, start: 0, end: 0, need: 1, \
     defaulted: true, role: Verb, next: 3 })";
 
+// [default]
 #[test]
 fn takes_fields_of_the_default(rt: HostRuntime) -> Result<(), Fail> {
     answer_chains(&rt, &grammar(rt.alloc())?, OF_THE_DEFAULT)

@@ -12,7 +12,7 @@ fn grammar(alloc: Global) -> Result<Grammar, Fail> {
     Ok(Grammar::new(nodes_of(alloc, NODES)?, Vec::new(alloc))?)
 }
 
-// A year of two digits is one of 19yy. The block behind a date is asked where the run is none, and one before it
+// A year of two digits is one of 19yy. The block after a date is asked where the run is none, and one before it
 // refuses a date as it does any other run.
 const TAKEN: &str = "\
     0 0 5-JAN-1980\r => Field(Field { node: 0, block: 0, value: Date(3656), start: 0, end: 10, need: 11, \

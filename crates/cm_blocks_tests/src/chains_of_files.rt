@@ -6,7 +6,7 @@ use cm_blocks::Grammar;
 use std::test::Fail;
 
 // Node 0 reads a file with wildcards, node 2 a user or a directory, by default OPERATOR, and node 3 a file, by default
-// AB.TXT; behind each node 1 confirms.
+// AB.TXT; after each node 1 confirms.
 const NODES: &str = "InFile+wild>1/Confirm>1/User>1 Directory>1 =<OPERATOR>/InFile>1 =AB.TXT";
 
 // The default is read by the same functions; its spans are places in it.

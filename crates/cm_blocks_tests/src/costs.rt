@@ -8,7 +8,7 @@ ghost use Rattle.cm_hooks.specs.Meanings.{Meanings};
 ghost use Rattle.cm_blocks.specs.declared.function.Function.{Function};
 ghost use Rattle.cm_blocks.specs.declared.node.Block.{Block};
 ghost use Rattle.cm_blocks.specs.declared.node.Node.{Node};
-ghost use Rattle.cm_blocks.specs.Kept.{cost};
+ghost use Rattle.cm_blocks.specs.KeptParse.{cost};
 ghost use Rattle.cm_blocks.specs.Setting.{setting};
 
 use cm_blocks::{Function, Role};
@@ -25,7 +25,7 @@ use cm_tables::Flag;
 // - A word loses one of two bytes: 2 for the end of the line and 2 for the word.
 // - A line stays as it was, with both its fields: 1 for the end of the line.
 // - Another stays whose word wants more: 2 for the end of the line and 3 for the word.
-// - A line is finished: 2 for the end of the line and 3 for the word, and 2 for the end of the line behind it.
+// - A line is finished: 2 for the end of the line and 3 for the word, and 2 for the end of the line after it.
 // - The same, of which nothing was held: besides, 2 for the end of the line and 5 for the keyword.
 fn edits_cost_their_trials()
     ensures { (catalogue : Catalogue) → (meanings : Meanings) → (flags : Flags)

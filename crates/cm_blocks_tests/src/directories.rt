@@ -1,6 +1,6 @@
 // Directories and users by example.
 
-use crate::cases::{Subject, hold, place_of, text_of, told};
+use crate::cases::{Subject, debug_text, hold, place_of, text_of};
 use crate::sample::Sample;
 use cm_files::{directory, user};
 use std::alloc::Global;
@@ -13,7 +13,7 @@ struct Directories {
 
 impl Subject for Directories {
     fn answer(&self, alloc: Global, given: &str) -> Result<String, Fail> {
-        told(alloc, &directory(self.new, &Sample, text_of(given)?, 0))
+        debug_text(alloc, &directory(self.new, &Sample, text_of(given)?, 0))
     }
 }
 
@@ -22,7 +22,7 @@ struct Users;
 impl Subject for Users {
     fn answer(&self, alloc: Global, given: &str) -> Result<String, Fail> {
         let given = place_of(given)?;
-        told(alloc, &user(&Sample, given.text, given.at))
+        debug_text(alloc, &user(&Sample, given.text, given.at))
     }
 }
 

@@ -1,6 +1,6 @@
 // What makes nodes and tables a grammar, by example.
 
-use crate::cases::{Subject, hold, numbered, told};
+use crate::cases::{Subject, debug_text, hold, numbered};
 use crate::grammars::{node_of, nodes_of, two_tables};
 use cm_blocks::{Block, Blocks, Function, Grammar, GrammarFault, Node, Role};
 use cm_tables::Table;
@@ -14,7 +14,7 @@ struct Faults;
 impl Subject for Faults {
     fn answer(&self, alloc: Global, given: &str) -> Result<String, Fail> {
         let found = Grammar::new(nodes_of(alloc, given)?, two_tables(alloc)?).err();
-        told(alloc, &found)
+        debug_text(alloc, &found)
     }
 }
 
@@ -55,6 +55,7 @@ Word/ => Some(EmptyChain(1))
 Word*17 => Some(ChainLong(0))
 Word/Word+all_generations => Some(BadFlags(1))";
 
+// [grammar-fault]
 #[test]
 fn finds_the_first_fault(rt: HostRuntime) -> Result<(), Fail> {
     let none = Grammar::new(Vec::new(rt.alloc()), two_tables(rt.alloc())?).err();
@@ -102,7 +103,7 @@ impl Subject for Counts {
         let (nodes, rest) = numbered(given)?;
         let (tables, blocks) = numbered(rest)?;
         let nodes = same_nodes(alloc, nodes, blocks)?;
-        told(
+        debug_text(
             alloc,
             &Grammar::new(nodes, empty_tables(alloc, tables)?).err(),
         )
@@ -156,7 +157,7 @@ impl Subject for Texts {
         let noise = has_good_text(alloc, Function::Noise(Name::new(given)), None, None)?;
         let help = has_good_text(alloc, Function::Word, Some(Name::new(given)), None)?;
         let default = has_good_text(alloc, Function::Word, None, Some(Name::new(given)))?;
-        told(alloc, &(token, noise, help, default))
+        debug_text(alloc, &(token, noise, help, default))
     }
 }
 

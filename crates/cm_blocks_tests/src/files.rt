@@ -1,6 +1,6 @@
 // Files by example.
 
-use crate::cases::{Subject, hold, place_of, text_of, told};
+use crate::cases::{Subject, debug_text, hold, place_of, text_of};
 use crate::sample::Sample;
 use cm_fields::{Code, FileKind, Try, Value};
 use cm_files::{Flags, file};
@@ -51,7 +51,7 @@ impl Subject for Files {
         let (words, text) = given.split_once('|').ok_or("flags are given first")?;
         let tried = file(kind_of(words), flags_of(words), &Sample, text_of(text)?, 0);
         let (meant, looked, end) = meant(tried).ok_or("a file is not decided")?;
-        told(alloc, &(meant, looked, end))
+        debug_text(alloc, &(meant, looked, end))
     }
 }
 
@@ -160,6 +160,7 @@ any|A.B.-1\r => (Ok(0), 7, Some(6))
 any|A.B.*\r => (Err(WildHere), 6, None)
 any wild|A*.B.*\r => (Ok(0), 7, Some(6))";
 
+// [file-field]
 #[test]
 fn files_that_are_written(rt: HostRuntime) -> Result<(), Fail> {
     hold(rt.alloc(), &Files, WRITTEN)

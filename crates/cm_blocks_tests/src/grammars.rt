@@ -1,7 +1,7 @@
 // Grammars as text, and what they are made of.
 ghost use Rattle.std.specs.Prelude.{◌≡◌, ◌≤◌, IfOk, length};
 
-use crate::cases::{Subject, hold, told};
+use crate::cases::{Subject, debug_text, hold};
 use crate::files::flags_of;
 use cm_blocks::{Block, Blocks, Function, Grammar, Node, Role};
 use cm_tables::{Entry, Flag, Table};
@@ -60,7 +60,7 @@ fn role_of(function: &Function) -> Role {
     }
 }
 
-// A text before a mark and the number behind it, 0 where the mark is not there.
+// A text before a mark and the number after it, 0 where the mark is not there.
 fn with_number(given: &str, mark: char) -> Result<(&str, u16), Fail> {
     match given.split_once(mark) {
         Some((text, number)) => Ok((text, number.parse::<u16>()?)),
@@ -85,7 +85,7 @@ fn block_of(word: &str) -> Result<Block, Fail> {
     })
 }
 
-// Pushes the block of a word as often as is said behind a star.
+// Pushes the block of a word as often as is said after a star.
 fn push_blocks(chain: &mut Vec<Block>, word: &str) -> Result<(), Fail> {
     let (word, count) = with_number(word, '*')?;
     for _ in 0..count.max(1) {
@@ -111,7 +111,7 @@ fn default_of(text: Option<&str>) -> Result<Option<Name>, Fail> {
     }
 }
 
-// The node of the blocks of these words, raw where that is the first, with the default behind ` =`.
+// The node of the blocks of these words, raw where that is the first, with the default after ` =`.
 pub(crate) fn node_of(alloc: Global, given: &str) -> Result<Node, Fail> {
     let words = given.strip_prefix("raw ").unwrap_or(given);
     let (words, default) = match words.split_once(" =") {
@@ -175,7 +175,7 @@ fn is_made_of_words(rt: HostRuntime) -> Result<(), Fail> {
     let grammar = list_grammar(rt.alloc())?;
     assert_eq!(rt; grammar.nodes(), 2);
     let node = grammar.node(0);
-    let shown = told(
+    let shown = debug_text(
         rt.alloc(),
         &(&node.default, node.raw, node.chain.as_slice()),
     )?;
@@ -200,7 +200,7 @@ impl Subject for Grammars {
         let number = grammar.nodes().checked_sub(1).ok_or("a grammar has nodes")?;
         let chain = grammar.node(number).chain.as_slice();
         let last = chain.last().map(|block| &block.function);
-        told(alloc, &(grammar.nodes(), chain.len(), last))
+        debug_text(alloc, &(grammar.nodes(), chain.len(), last))
     }
 }
 

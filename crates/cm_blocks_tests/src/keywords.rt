@@ -1,6 +1,6 @@
 // Keywords and switches by example.
 
-use crate::cases::{Subject, hold, place_of, told};
+use crate::cases::{Subject, debug_text, hold, place_of};
 use crate::grammars::entry;
 use cm_blocks::{key, switch};
 use cm_tables::{Entry, Flag, Table};
@@ -14,7 +14,7 @@ struct Keywords<'a>(&'a Table);
 impl<'a> Subject for Keywords<'a> {
     fn answer(&self, alloc: Global, given: &str) -> Result<String, Fail> {
         let given = place_of(given)?;
-        told(alloc, &key(self.0, given.text, given.at))
+        debug_text(alloc, &key(self.0, given.text, given.at))
     }
 }
 
@@ -24,7 +24,7 @@ struct Switches<'a>(&'a Table);
 impl<'a> Subject for Switches<'a> {
     fn answer(&self, alloc: Global, given: &str) -> Result<String, Fail> {
         let given = place_of(given)?;
-        told(alloc, &switch(self.0, given.text, given.at))
+        debug_text(alloc, &switch(self.0, given.text, given.at))
     }
 }
 

@@ -2,7 +2,7 @@
 ghost use Rattle.std.specs.Prelude.{◌≤◌};
 ghost use Rattle.cm_files.specs.declared.generation.TheConstants.{GENERATION_LIMIT};
 
-use crate::cases::{Subject, hold, numbered, told};
+use crate::cases::{Subject, debug_text, hold, numbered};
 use crate::many::Many;
 use crate::sample::Sample;
 use cm_fields::Gen;
@@ -12,7 +12,7 @@ use std::alloc::Global;
 use std::cell::Cell;
 use std::test::Fail;
 
-// All names and types, of the generation that a file specification says; behind a word, those that are marked deleted.
+// All names and types, of the generation that a file specification says; after a word, those that are marked deleted.
 fn sought(given: &str) -> Result<Sought<'static>, Fail> {
     let (deleted, spec) = match given.strip_prefix("deleted ") {
         Some(spec) => (true, spec),
@@ -68,7 +68,7 @@ impl Subject for Listings {
         let (few, short) = looks(1024, self.is_last, &sought);
         let (more, long) = looks(4096, self.is_last, &sought);
         let are_few = u64::from(long) <= 4 * u64::from(short) + 16 && long <= 5 * 4096;
-        told(alloc, &(few, more, are_few))
+        debug_text(alloc, &(few, more, are_few))
     }
 }
 
@@ -96,7 +96,7 @@ struct Next;
 impl Subject for Next {
     fn answer(&self, alloc: Global, given: &str) -> Result<String, Fail> {
         let (from, rest) = numbered(given)?;
-        told(alloc, &select(&Sample, 0, &sought(rest)?, u32::from(from)))
+        debug_text(alloc, &select(&Sample, 0, &sought(rest)?, u32::from(from)))
     }
 }
 

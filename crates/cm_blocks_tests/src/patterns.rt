@@ -1,17 +1,17 @@
 // What patterns mean, and that it is found soon.
 
-use crate::cases::{Subject, hold, told};
+use crate::cases::{Subject, debug_text, hold};
 use cm_files::matches;
 use std::alloc::Global;
 use std::test::Fail;
 
-// Whether the pattern before a slash means the name behind it.
+// Whether the pattern before a slash means the name after it.
 struct Patterns;
 
 impl Subject for Patterns {
     fn answer(&self, alloc: Global, given: &str) -> Result<String, Fail> {
         let (pattern, name) = given.split_once('/').ok_or("a pattern is given first")?;
-        told(alloc, &matches(pattern.as_bytes(), name.as_bytes()))
+        debug_text(alloc, &matches(pattern.as_bytes(), name.as_bytes()))
     }
 }
 
@@ -41,6 +41,7 @@ AB*BA/ABBA => true
 **/ => true
 *%*/ => false";
 
+// [wildcard]
 #[test]
 fn a_star_is_a_run_and_a_percent_one_byte(rt: HostRuntime) -> Result<(), Fail> {
     hold(rt.alloc(), &Patterns, MEANINGS)

@@ -1,7 +1,7 @@
 // What the chains of the tests are tried under: rules, and a counter.
 ghost use Rattle.std.specs.Prelude.{◌≡◌, ◌<◌};
 
-use crate::cases::{compare, numbered, place_of, sides, told};
+use crate::cases::{compare, debug_text, numbered, place_of, sides};
 use crate::sample::Sample;
 use cm_blocks::{Grammar, Steps, try_chain};
 use cm_hooks::{Answer, Rules, Tail};
@@ -57,7 +57,7 @@ fn answers_case<L: Ledger>(
         return Err(Fail::new("no such node"));
     }
     let chain = try_chain(grammar, node, given.text, given.at, &Sample, &Sizes, steps);
-    let answer = told(alloc, &chain)?;
+    let answer = debug_text(alloc, &chain)?;
     compare(case, answer.as_str(), wanted)
 }
 

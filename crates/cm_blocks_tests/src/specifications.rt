@@ -2,7 +2,7 @@
 ghost use Rattle.std.specs.Prelude.{length};
 ghost use Rattle.cm_files.specs.Spec.{IsPartOf};
 
-use crate::cases::{Subject, hold, told};
+use crate::cases::{Subject, debug_text, hold};
 use cm_fields::{Span, Spec};
 use cm_files::{SpecFault, is_logical_name, part, read_spec};
 use cm_text::LINE_LIMIT;
@@ -33,7 +33,7 @@ impl Subject for Parts {
         let directory = part_of(text, spec.directory)?;
         let name = part_of(text, spec.name)?;
         let kind = part_of(text, spec.kind)?;
-        told(alloc, &(device, directory, name, kind))
+        debug_text(alloc, &(device, directory, name, kind))
     }
 }
 
@@ -64,7 +64,7 @@ struct Generations;
 
 impl Subject for Generations {
     fn answer(&self, alloc: Global, given: &str) -> Result<String, Fail> {
-        told(alloc, &read(given)??.generation)
+        debug_text(alloc, &read(given)??.generation)
     }
 }
 
@@ -135,7 +135,7 @@ struct LogicalNames;
 
 impl Subject for LogicalNames {
     fn answer(&self, alloc: Global, given: &str) -> Result<String, Fail> {
-        told(alloc, &is_logical_name(given.as_bytes()))
+        debug_text(alloc, &is_logical_name(given.as_bytes()))
     }
 }
 

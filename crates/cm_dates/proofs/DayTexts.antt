@@ -38,8 +38,8 @@ before_part part more plain =
     ap (λ size. take size (part ++ 45 ∷ more)) (prefix_len_stop is_plain part 45 more plain refl)
     ∙ take-append_seam part (45 ∷ more)
 
-behind_part : (part more : List ℕ) → list_all is_plain part ≡ true → after_first is_hyphen (part ++ 45 ∷ more) ≡ more
-behind_part part more plain =
+after_part : (part more : List ℕ) → list_all is_plain part ≡ true → after_first is_hyphen (part ++ 45 ∷ more) ≡ more
+after_part part more plain =
     ap (λ size. drop (size + 1) (part ++ 45 ∷ more)) (prefix_len_stop is_plain part 45 more plain refl)
     ∙ drop-append-add part (45 ∷ more) 1
 
@@ -50,9 +50,9 @@ unfolding date_of
 parts_read day letters year first second =
     rw (
       before_part day (letters ++ 45 ∷ year) first,
-      behind_part day (letters ++ 45 ∷ year) first,
+      after_part day (letters ++ 45 ∷ year) first,
       before_part letters year second,
-      behind_part letters year second,
+      after_part letters year second,
     ) refl
 
 -- a day of the years that a date may have
@@ -94,7 +94,7 @@ date_read year month day civil range =
     ∙ ap (λ day. day_in year month day) written.value
     ∙ day_read year month day civil range
 
--- a run of word bytes, with another byte behind it
+-- a run of word bytes, with another byte after it
 run_read : (run more : List ℕ) (stop at : ℕ) (value : Value) → list_all is_word run ≡ true → is_word stop ≡ false
     → date_of run ≡ Ok value → date (run ++ stop ∷ more) at ≡ Accept value (length run + 1) (at + length run)
 run_read run more stop at value words ends is =

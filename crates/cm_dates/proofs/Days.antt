@@ -25,6 +25,6 @@ year_of_day y m d civil within =
     (λ early. let before = day_count-lt_year y m d (pos 1970) 1 1 civil (omega arith) early in
     absurd (omega (arith, signed_arith, count, day_count-epoch, before)))
     (λ from. by_lt_z (pos 2099) y
-    (λ late. let behind = day_count-lt_year (pos 2099) 12 31 y m d last_date civil.2.0 late in
-    absurd (omega (arith, signed_arith, count, last_day, behind)))
+    (λ late. let after = day_count-lt_year (pos 2099) 12 31 y m d last_date civil.2.0 late in
+    absurd (omega (arith, signed_arith, count, last_day, after)))
     (λ to. (from, to)))

@@ -1,6 +1,6 @@
+pub mod DayTexts
 pub mod Days
 pub mod MonthNames
 pub mod OneText
-pub mod DayTexts
 pub mod Texts
 pub mod Values

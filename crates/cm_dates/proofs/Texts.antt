@@ -44,15 +44,15 @@ from_month (suc more) day count year month days counted range first room is with
     from_month more day count year (month + 1) (days - days_in_month (pos year) month) counted range (omega arith)
     (omega arith) (omega (arith, next, all)) within)
 
-pub behind_last : day_count (pos 2100) 1 1 ≡ 4_419_435
-behind_last = day_count-early (pos 2100) 12099 1 1 refl (omega arith) (omega arith) (omega arith)
+pub after_last : day_count (pos 2100) 1 1 ≡ 4_419_435
+after_last = day_count-early (pos 2100) 12099 1 1 refl (omega arith) (omega arith) (omega arith)
 
 from_year : (more : ℕ) (day : ℤ) (count year days : ℕ) → IsCounted day count → 1970 ≤ year → year + more ≡ 2100
     → day_count (pos year) 1 1 + days ≡ count → count ≤ 4_419_434 → IsDayText day (text_from_year more year days)
 from_year zero day count year days counted first room is within =
     let last : year ≡ 2100 = omega arith in
     let place = rw last at is in
-    absurd (omega (arith, place, behind_last))
+    absurd (omega (arith, place, after_last))
 from_year (suc more) day count year days counted first room is within =
     cond_both (nat_lt days (days_in_year (pos year))) _ _ (IsDayText day) (λ few.
     let small : days < days_in_year (pos year) = grind (arith, nat_tests) in

@@ -17,7 +17,7 @@ pub record IsDayText (day : ℤ) (text : List ℕ) : Type 0 where
   pub day_is : days_from_civil (pos year) month day_of_month ≡ day
   pub text_is : text ≡ date_text year month day_of_month
 
--- the text of the day that stands so many days behind the first of this month, within so many months
+-- the text of the day that stands so many days after the first of this month, within so many months
 abbrev pub text_from_month : ℕ → ℕ → ℕ → ℕ → List ℕ
 text_from_month zero year month days = []
 text_from_month (suc more) year month days =

@@ -1,6 +1,6 @@
 // A date, and what its parts say.
 // The words are std's first: before_first, after_first, digits_value, decimal. A cut at a byte is split_at at the
-// length of a take_while, alone in a function, and then the pattern [_, behind @ ..].
+// length of a take_while, alone in a function, and then the pattern [_, after @ ..].
 ghost use Rattle.std.specs.Prelude.{◌≡◌, ◌≤◌, true, drop, length};
 ghost use Rattle.std.specs.Char.{is_ascii_digit};
 ghost use Rattle.std.specs.Int.{IsInRange};
@@ -20,6 +20,7 @@ use jiff::civil;
 pub fn date(text: &[u8], at: usize) -> Try
     requires short { length text.now ≤ TEXT_LIMIT }
     requires place { at ≤ length text.now }
+    // [date]
     ensures { result ≡ date (drop at text.now) at }
 {
     let rest = &text[at..];
@@ -50,14 +51,14 @@ fn date_of(run: &[u8]) -> Result<Value, Code>
     day_in(year_of(year), month, day)
 }
 
-// The bytes before the first hyphen, and those behind it; all of them, and none, where there is no hyphen.
+// The bytes before the first hyphen, and those after it; all of them, and none, where there is no hyphen.
 fn split(run: &[u8]) -> (&[u8], &[u8])
     ensures before { result.0.now ≡ before_first is_hyphen run.now }
-    ensures behind { result.1.now ≡ after_first is_hyphen run.now }
+    ensures after { result.1.now ≡ after_first is_hyphen run.now }
 {
     let (before, rest) = run.split_at(part_size(run));
     match rest {
-        [_, behind @ ..] => (before, behind),
+        [_, after @ ..] => (before, after),
         [] => (before, rest),
     }
 }

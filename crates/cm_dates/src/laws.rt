@@ -21,7 +21,7 @@ pub fn a_finished_date_is_decided()
     ensures { DecidesFinished date }
 {}
 
-/// The text of a day, with a byte behind it that is no part of a word, is read as that day.
+/// The text of a day, with a byte after it that is no part of a word, is read as that day.
 pub fn text_is_read()
     ensures { (day : ℤ) → (text more : List ℕ) → (stop at : ℕ) → IsBetween (pos 0) DAY_LIMIT day
         → IsDayText day text → is_word stop ≡ false

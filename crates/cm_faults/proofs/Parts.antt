@@ -1,7 +1,7 @@
 -- Parts of bytes, as sinks take them.
 use Rattle.std.proofs.Common.{ℕ, List, ◌++◌, take, drop, subst}
 use Rattle.std.proofs.lemmas.List.{take-append-drop}
-use Rattle.cm_io.specs.Told.{Bytes, AddsPart}
+use Rattle.cm_io.specs.Contents.{Bytes, AddsPart}
 use Rattle.cm_io.proofs.Additions.{adds_early, adds_prefix}
 
 -- a beginning of a beginning of the bytes is a part of them

@@ -38,8 +38,8 @@ impl Failing {
     pub fn faults(&self, screen: &PartSink, log: Option<&PartSink>) -> Faults {
         Faults {
             gets: self.get.map(|get| get as usize),
-            screen: held_behind(Some(screen), self.screen, self.part),
-            log: held_behind(log, self.log, self.part),
+            screen: held_after(Some(screen), self.screen, self.part),
+            log: held_after(log, self.log, self.part),
         }
     }
 
@@ -69,8 +69,8 @@ impl Failing {
     }
 }
 
-fn held_behind(sink: Option<&PartSink>, put: Option<usize>, part: Part) -> Option<usize> {
-    sink?.held_behind(put?, part)
+fn held_after(sink: Option<&PartSink>, put: Option<usize>, part: Part) -> Option<usize> {
+    sink?.held_after(put?, part)
 }
 
 /// Whether IN has this image still.
@@ -91,7 +91,7 @@ pub fn status_of(stop: Stop, loses: bool) -> Status {
     }
 }
 
-/// What such a run shows behind its trace, as a text of a trace: a screen that has failed is given nothing more.
+/// What such a run shows after its trace, as a text of a trace: a screen that has failed is given nothing more.
 pub fn closing(stop: Stop, loses: bool) -> &'static str {
     match (stop, loses) {
         (Stop::Keys, false) => "~?Read fault~",

@@ -1,7 +1,7 @@
 // A sink of which one put fails.
 ghost use Rattle.std.specs.Prelude.{◌≡◌, ◌≤◌, []};
 ghost use Rattle.cm_io.specs.Fault.{PutCause, Rose};
-ghost use Rattle.cm_io.specs.Told.{Adds, AddsPart, Bytes};
+ghost use Rattle.cm_io.specs.Contents.{Adds, AddsPart, Bytes};
 
 use cm_io::{MemSink, NoMemory, Put, Sink};
 use std::alloc::Global;
@@ -37,7 +37,7 @@ fn raised(count: u64) -> u64
     count.saturating_add(1)
 }
 
-/// A sink in memory of which one put fails, and takes a part of its bytes. It takes all that is put behind that. A put
+/// A sink in memory of which one put fails, and takes a part of its bytes. It takes all that is put after that. A put
 /// of no bytes is none.
 #[derive(Drop)]
 pub struct PartSink {
@@ -77,8 +77,8 @@ impl PartSink {
         self.starts.len()
     }
 
-    /// How many bytes would be held behind a put of those that there were, if it had taken this part alone.
-    pub fn held_behind(&self, put: usize, part: Part) -> Option<usize> {
+    /// How many bytes would be held after a put of those that there were, if it had taken this part alone.
+    pub fn held_after(&self, put: usize, part: Part) -> Option<usize> {
         let start = *self.starts.get(put)?;
         let end = match self.starts.get(put.saturating_add(1)) {
             Some(next) => *next,
@@ -102,7 +102,7 @@ impl PartSink {
     }
 
     // Puts all of the bytes, or what there is room for.
-    #[tactic(auto, using(cm_io::proofs::Additions::adds_prefix), unfolding(cm_io::specs::Told::add))]
+    #[tactic(auto, using(cm_io::proofs::Additions::adds_prefix), unfolding(cm_io::specs::Contents::add))]
     fn put_whole(&mut self, bytes: &[u8]) -> Put
         ensures nothing { bytes.now ≡ [] → result ≡ Put.Done }
         ensures bytes { Adds (Bytes self.old.held.bytes) (Bytes self.new.held.bytes) bytes.now result }
@@ -120,7 +120,7 @@ impl PartSink {
 }
 
 impl Sink for PartSink {
-    ghost told = { λ sink. Bytes sink.held.bytes };
+    ghost contents = { λ sink. Bytes sink.held.bytes };
 
     ghost faults = { λ sink. sink.faults };
 

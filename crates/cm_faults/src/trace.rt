@@ -6,7 +6,7 @@
 
 use std::alloc::{AllocError, Global};
 
-/// What fails of the outside, if anything: the get behind so many; the screen, and the log, behind so many bytes.
+/// What fails of the outside, if anything: the get after so many; the screen, and the log, after so many bytes.
 #[derive(Clone, Copy, Debug, PartialEq, Eq)]
 pub struct Faults {
     pub gets: Option<usize>,
@@ -103,7 +103,7 @@ pub fn bytes_of(alloc: Global, text: &str) -> Result<Vec<u8>, AllocError> {
     Ok(bytes)
 }
 
-/// Puts the bytes of a text behind others.
+/// Puts the bytes of a text after others.
 pub fn push_text(text: &str, bytes: &mut Vec<u8>) -> Result<(), AllocError> {
     for byte in text.bytes() {
         if byte == b'~' {

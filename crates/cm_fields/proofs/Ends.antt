@@ -28,10 +28,10 @@ blanks_passed raw at (byte ∷ more) = by (is_blank byte) refl (blanks_passed ra
         let place : at + suc size ≡ at + 1 + size = omega arith in
         rw (further, place, is) later
 
--- so the walk may begin behind them
-pub behind_blanks : (raw : Bool) (text : List ℕ) (at size start : ℕ) → size ≡ prefix_len is_blank (drop at text) → start ≡ at + size
+-- so the walk may begin after them
+pub after_blanks : (raw : Bool) (text : List ℕ) (at size start : ℕ) → size ≡ prefix_len is_blank (drop at text) → start ≡ at + size
     → skip_from raw Outside (start + 0) (drop 0 (drop start text)) ≡ skip raw text at
-behind_blanks raw text at size start is begins =
+after_blanks raw text at size start is begins =
     let place : start + 0 ≡ at + size = omega arith in
     rw (place, begins, ← drop-drop size at text, is) (blanks_passed raw at (drop at text))
 

@@ -5,8 +5,8 @@ use Rattle.std.proofs.lemmas.Bool.{cond_both, eqb-false, eqb-true, ne_eqb}
 use Rattle.cm_text.specs.Bytes.{is_blank}
 use Rattle.cm_fields.specs.declared.skipped.Comment.{Comment}
 use Rattle.cm_fields.specs.declared.skipped.Comment.TheVariants.{Outside, ToMark, ToEnd}
-use Rattle.cm_fields.specs.Passed.{ArePassed, BeginsOther, EndsLine, HasNoEnd, HasNoMark, IsOpen, IsPast, IsUnended}
-use Rattle.cm_fields.specs.Passed.{blank, marked, nothing, to_end, unclosed}
+use Rattle.cm_fields.specs.BeforeField.{ArePassed, BeginsOther, EndsLine, HasNoEnd, HasNoMark, IsOpen, IsPast, IsUnended}
+use Rattle.cm_fields.specs.BeforeField.{blank, marked, nothing, to_end, unclosed}
 use Rattle.cm_fields.specs.Skip.{or_later, passed, skip, skip_from}
 
 mark_is_no_blank : is_blank 33 ≡ false
@@ -32,29 +32,29 @@ through_mark raw at (byte ∷ inside) rest inner =
     let place : at + 1 + length inside + 1 ≡ at + length (byte ∷ inside) + 1 = omega arith in
     rw (first, second) (through_mark raw (at + 1) inside rest inner.1 ∙ ap (λ place. skip_from raw Outside place rest) place)
 
-mark_to_end : (raw : Bool) (at : ℕ) (inside behind : List ℕ) → HasNoMark inside → EndsLine behind
-    → skip_from raw ToMark at (inside ++ behind) ≡ Some (at + length inside)
+mark_to_end : (raw : Bool) (at : ℕ) (inside after : List ℕ) → HasNoMark inside → EndsLine after
+    → skip_from raw ToMark at (inside ++ after) ≡ Some (at + length inside)
 mark_to_end raw at [] [] inner end = absurd end
-mark_to_end raw at [] (byte ∷ behind) inner end = rw end (ap Some (omega arith))
-mark_to_end raw at (byte ∷ inside) behind inner end =
+mark_to_end raw at [] (byte ∷ after) inner end = rw end (ap Some (omega arith))
+mark_to_end raw at (byte ∷ inside) after inner end =
     let first = ne_eqb byte 13 inner.0.1 in
     let second = ne_eqb byte 33 inner.0.0 in
     let place : at + 1 + length inside ≡ at + length (byte ∷ inside) = omega arith in
-    rw (first, second) (mark_to_end raw (at + 1) inside behind inner.1 end ∙ ap Some place)
+    rw (first, second) (mark_to_end raw (at + 1) inside after inner.1 end ∙ ap Some place)
 
-semicolon_to_end : (raw : Bool) (at : ℕ) (inside behind : List ℕ) → HasNoEnd inside → EndsLine behind
-    → skip_from raw ToEnd at (inside ++ behind) ≡ Some (at + length inside)
+semicolon_to_end : (raw : Bool) (at : ℕ) (inside after : List ℕ) → HasNoEnd inside → EndsLine after
+    → skip_from raw ToEnd at (inside ++ after) ≡ Some (at + length inside)
 semicolon_to_end raw at [] [] inner end = absurd end
-semicolon_to_end raw at [] (byte ∷ behind) inner end = rw end (ap Some (omega arith))
-semicolon_to_end raw at (byte ∷ inside) behind inner end =
+semicolon_to_end raw at [] (byte ∷ after) inner end = rw end (ap Some (omega arith))
+semicolon_to_end raw at (byte ∷ inside) after inner end =
     let first = ne_eqb byte 13 inner.0 in
     let place : at + 1 + length inside ≡ at + length (byte ∷ inside) = omega arith in
-    rw first (semicolon_to_end raw (at + 1) inside behind inner.1 end ∙ ap Some place)
+    rw first (semicolon_to_end raw (at + 1) inside after inner.1 end ∙ ap Some place)
 
-stops_at_end : (raw : Bool) (at : ℕ) (behind : List ℕ) → EndsLine behind → skip_from raw Outside at behind ≡ Some at
+stops_at_end : (raw : Bool) (at : ℕ) (after : List ℕ) → EndsLine after → skip_from raw Outside at after ≡ Some at
 stops_at_end raw at [] end = absurd end
-stops_at_end true at (byte ∷ behind) end = rw (end, end_is_no_blank)
-stops_at_end false at (byte ∷ behind) end = rw (end, end_is_no_blank)
+stops_at_end true at (byte ∷ after) end = rw (end, end_is_no_blank)
+stops_at_end false at (byte ∷ after) end = rw (end, end_is_no_blank)
 
 begins_mark : (raw : Bool) (at : ℕ) (rest : List ℕ) → raw ≡ false
     → skip_from raw Outside at (33 ∷ rest) ≡ skip_from raw ToMark (at + 1) rest
@@ -67,33 +67,33 @@ begins_semicolon true at rest has = cc
 begins_semicolon false at rest has = rw semicolon_is_no_blank
 
 -- the walk passes over blanks and whole comments
-goes_past : (raw : Bool) (behind : List ℕ) (at : ℕ) (bytes : List ℕ) → ArePassed raw behind bytes
-    → skip_from raw Outside at (bytes ++ behind) ≡ skip_from raw Outside (at + length bytes) behind
-goes_past raw behind at bytes nothing = ap (λ place. skip_from raw Outside place behind) (omega arith)
-goes_past raw behind at bytes (blank byte more is rest) =
+goes_past : (raw : Bool) (after : List ℕ) (at : ℕ) (bytes : List ℕ) → ArePassed raw after bytes
+    → skip_from raw Outside at (bytes ++ after) ≡ skip_from raw Outside (at + length bytes) after
+goes_past raw after at bytes nothing = ap (λ place. skip_from raw Outside place after) (omega arith)
+goes_past raw after at bytes (blank byte more is rest) =
     let place : at + 1 + length more ≡ at + length (byte ∷ more) = omega arith in
-    rw is (goes_past raw behind (at + 1) more rest ∙ ap (λ place. skip_from raw Outside place behind) place)
-goes_past raw behind at bytes (marked inside more has inner rest) =
-    let whole : (inside ++ 33 ∷ more) ++ behind ≡ inside ++ 33 ∷ (more ++ behind) = append_assoc inside (33 ∷ more) behind in
+    rw is (goes_past raw after (at + 1) more rest ∙ ap (λ place. skip_from raw Outside place after) place)
+goes_past raw after at bytes (marked inside more has inner rest) =
+    let whole : (inside ++ 33 ∷ more) ++ after ≡ inside ++ 33 ∷ (more ++ after) = append_assoc inside (33 ∷ more) after in
     let place : at + 1 + length inside + 1 + length more ≡ at + length (33 ∷ inside ++ 33 ∷ more) =
     omega (arith, length-append inside (33 ∷ more)) in
-    begins_mark raw at ((inside ++ 33 ∷ more) ++ behind) has
+    begins_mark raw at ((inside ++ 33 ∷ more) ++ after) has
     ∙ ap (λ text. skip_from raw ToMark (at + 1) text) whole
-    ∙ through_mark raw (at + 1) inside (more ++ behind) inner
-    ∙ goes_past raw behind (at + 1 + length inside + 1) more rest
-    ∙ ap (λ place. skip_from raw Outside place behind) place
-goes_past raw behind at bytes (unclosed inside has inner end) =
+    ∙ through_mark raw (at + 1) inside (more ++ after) inner
+    ∙ goes_past raw after (at + 1 + length inside + 1) more rest
+    ∙ ap (λ place. skip_from raw Outside place after) place
+goes_past raw after at bytes (unclosed inside has inner end) =
     let place : at + 1 + length inside ≡ at + length (33 ∷ inside) = omega arith in
-    begins_mark raw at (inside ++ behind) has
-    ∙ mark_to_end raw (at + 1) inside behind inner end ∙ ap Some place
-    ∙ sym (stops_at_end raw (at + length (33 ∷ inside)) behind end)
-goes_past raw behind at bytes (to_end inside has inner end) =
+    begins_mark raw at (inside ++ after) has
+    ∙ mark_to_end raw (at + 1) inside after inner end ∙ ap Some place
+    ∙ sym (stops_at_end raw (at + length (33 ∷ inside)) after end)
+goes_past raw after at bytes (to_end inside has inner end) =
     let place : at + 1 + length inside ≡ at + length (59 ∷ inside) = omega arith in
-    begins_semicolon raw at (inside ++ behind) has
-    ∙ semicolon_to_end raw (at + 1) inside behind inner end ∙ ap Some place
-    ∙ sym (stops_at_end raw (at + length (59 ∷ inside)) behind end)
+    begins_semicolon raw at (inside ++ after) has
+    ∙ semicolon_to_end raw (at + 1) inside after inner end ∙ ap Some place
+    ∙ sym (stops_at_end raw (at + length (59 ∷ inside)) after end)
 
-stops_at_other : (raw : Bool) (at : ℕ) (behind : List ℕ) → BeginsOther raw behind → skip_from raw Outside at behind ≡ Some at
+stops_at_other : (raw : Bool) (at : ℕ) (after : List ℕ) → BeginsOther raw after → skip_from raw Outside at after ≡ Some at
 stops_at_other raw at [] other = refl
 stops_at_other true at (byte ∷ rest) other = let first = other.0 in rw first
 stops_at_other false at (byte ∷ rest) other =
@@ -116,7 +116,7 @@ stays_in_semicolon raw at (byte ∷ inside) inner =
     let first = ne_eqb byte 13 inner.0 in
     rw first (stays_in_semicolon raw (at + 1) inside inner.1)
 
-never_ends : (raw : Bool) (at : ℕ) (behind : List ℕ) → raw ≡ false → IsUnended behind → skip_from raw Outside at behind ≡ None
+never_ends : (raw : Bool) (at : ℕ) (after : List ℕ) → raw ≡ false → IsUnended after → skip_from raw Outside at after ≡ None
 never_ends raw at [] has unended = absurd unended
 never_ends raw at (byte ∷ inside) has (inl (is, inner)) =
     rw is (begins_mark raw at inside has ∙ stays_in_mark raw (at + 1) inside inner)
@@ -127,51 +127,51 @@ pub skip_of_past : (raw : Bool) (text : List ℕ) (at place : ℕ) → IsPast ra
     → skip raw text at ≡ Some place
 skip_of_past raw text at place past =
     ap (λ rest. skip_from raw Outside at rest) past.whole
-    ∙ goes_past raw past.behind at past.bytes past.passed
-    ∙ stops_at_other raw (at + length past.bytes) past.behind past.other
+    ∙ goes_past raw past.after at past.bytes past.passed
+    ∙ stops_at_other raw (at + length past.bytes) past.after past.other
     ∙ ap Some (sym past.ends)
 
 pub skip_of_open : (raw : Bool) (text : List ℕ) (at : ℕ) → IsOpen raw (drop at text) → skip raw text at ≡ None
 skip_of_open raw text at open_comment =
     ap (λ rest. skip_from raw Outside at rest) open_comment.whole
-    ∙ goes_past raw open_comment.behind at open_comment.bytes open_comment.passed
-    ∙ never_ends raw (at + length open_comment.bytes) open_comment.behind open_comment.has_comments open_comment.unended
+    ∙ goes_past raw open_comment.after at open_comment.bytes open_comment.passed
+    ∙ never_ends raw (at + length open_comment.bytes) open_comment.after open_comment.has_comments open_comment.unended
 
 -- from the walk to what stands there
 
-abbrev Told : Bool → List ℕ → ℕ → Option ℕ → Type 0
-Told raw rest at None = IsOpen raw rest
-Told raw rest at (Some place) = IsPast raw rest at place
+abbrev FoundAt : Bool → List ℕ → ℕ → Option ℕ → Type 0
+FoundAt raw rest at None = IsOpen raw rest
+FoundAt raw rest at (Some place) = IsPast raw rest at place
 
-told_behind : (raw : Bool) (front rest : List ℕ) (at : ℕ) (found : Option ℕ)
-    → ((behind bytes : List ℕ) → ArePassed raw behind bytes → ArePassed raw behind (front ++ bytes))
-    → Told raw rest (at + length front) found → Told raw (front ++ rest) at found
-told_behind raw front rest at None goes told = record {
-  bytes = front ++ told.bytes;
-  behind = told.behind;
-  whole = ap (λ more. front ++ more) told.whole ∙ sym (append_assoc front told.bytes told.behind);
-  has_comments = told.has_comments;
-  passed = goes told.behind told.bytes told.passed;
-  unended = told.unended;
+found_further : (raw : Bool) (front rest : List ℕ) (at : ℕ) (found : Option ℕ)
+    → ((after bytes : List ℕ) → ArePassed raw after bytes → ArePassed raw after (front ++ bytes))
+    → FoundAt raw rest (at + length front) found → FoundAt raw (front ++ rest) at found
+found_further raw front rest at None goes is_found = record {
+  bytes = front ++ is_found.bytes;
+  after = is_found.after;
+  whole = ap (λ more. front ++ more) is_found.whole ∙ sym (append_assoc front is_found.bytes is_found.after);
+  has_comments = is_found.has_comments;
+  passed = goes is_found.after is_found.bytes is_found.passed;
+  unended = is_found.unended;
 }
-told_behind raw front rest at (Some place) goes told = record {
-  bytes = front ++ told.bytes;
-  behind = told.behind;
-  whole = ap (λ more. front ++ more) told.whole ∙ sym (append_assoc front told.bytes told.behind);
-  ends = omega (arith, told.ends, length-append front told.bytes);
-  passed = goes told.behind told.bytes told.passed;
-  other = told.other;
+found_further raw front rest at (Some place) goes is_found = record {
+  bytes = front ++ is_found.bytes;
+  after = is_found.after;
+  whole = ap (λ more. front ++ more) is_found.whole ∙ sym (append_assoc front is_found.bytes is_found.after);
+  ends = omega (arith, is_found.ends, length-append front is_found.bytes);
+  passed = goes is_found.after is_found.bytes is_found.passed;
+  other = is_found.other;
 }
 
 -- what the walk tells from a place on, within a comment however it began
 abbrev Tells : Bool → Comment → ℕ → List ℕ → Option ℕ → Type 0
-Tells raw Outside at rest found = Told raw rest at found
+Tells raw Outside at rest found = FoundAt raw rest at found
 Tells raw ToMark at rest found =
     (inside : List ℕ) (begin : ℕ) → HasNoMark inside → at ≡ begin + length (33 ∷ inside)
-    → Told raw (33 ∷ inside ++ rest) begin found
+    → FoundAt raw (33 ∷ inside ++ rest) begin found
 Tells raw ToEnd at rest found =
     (inside : List ℕ) (begin : ℕ) → HasNoEnd inside → at ≡ begin + length (59 ∷ inside)
-    → Told raw (59 ∷ inside ++ rest) begin found
+    → FoundAt raw (59 ∷ inside ++ rest) begin found
 
 -- only a text that is not raw has comments
 abbrev MayBeIn : Bool → Comment → Type 0
@@ -181,19 +181,19 @@ MayBeIn raw ToEnd = raw ≡ false
 
 outside_tells : (raw : Bool) (at byte : ℕ) (rest : List ℕ)
     → ((comment : Comment) → MayBeIn raw comment → Tells raw comment (at + 1) rest (skip_from raw comment (at + 1) rest))
-    → Told raw (byte ∷ rest) at (or_later at (passed raw Outside byte) (λ next. skip_from raw next (at + 1) rest))
+    → FoundAt raw (byte ∷ rest) at (or_later at (passed raw Outside byte) (λ next. skip_from raw next (at + 1) rest))
 outside_tells raw at byte rest later =
-    let P : Option Comment → Type 0 = λ next. Told raw (byte ∷ rest) at (or_later at next (λ next. skip_from raw next (at + 1) rest)) in
-    cond_both (is_blank byte) (Some Outside) _ P (λ is. told_behind raw (byte ∷ []) rest at _ (λ behind bytes before. blank byte bytes is before) (later Outside tt)) (λ plain. cond_both raw None _ P (λ is_raw. record {
+    let P : Option Comment → Type 0 = λ next. FoundAt raw (byte ∷ rest) at (or_later at next (λ next. skip_from raw next (at + 1) rest)) in
+    cond_both (is_blank byte) (Some Outside) _ P (λ is. found_further raw (byte ∷ []) rest at _ (λ after bytes before. blank byte bytes is before) (later Outside tt)) (λ plain. cond_both raw None _ P (λ is_raw. record {
       bytes = [];
-      behind = byte ∷ rest;
+      after = byte ∷ rest;
       whole = refl;
       ends = omega arith;
       passed = nothing;
       other = (plain, λ (has : raw ≡ false). absurd (cc));
     }) (λ has. cond_both (byte == 33) (Some ToMark) _ P (λ test. let is = eqb-true byte 33 test in rw is (later ToMark has [] at tt (omega arith))) (λ first. cond_both (byte == 59) (Some ToEnd) None P (λ test. let is = eqb-true byte 59 test in rw is (later ToEnd has [] at tt (omega arith))) (λ second. record {
       bytes = [];
-      behind = byte ∷ rest;
+      after = byte ∷ rest;
       whole = refl;
       ends = omega arith;
       passed = nothing;
@@ -214,25 +214,25 @@ other_at_end raw byte rest is =
     (rw is end_is_no_blank, λ _. (λ (e : byte ≡ 33). absurd (omega arith), λ (e : byte ≡ 59). absurd (omega arith)))
 
 -- one byte more of a comment
-told_longer : (raw : Bool) (inside : List ℕ) (byte : ℕ) (rest : List ℕ) (begin : ℕ) (found : Option ℕ)
-    → Told raw ((inside ++ byte ∷ []) ++ rest) begin found → Told raw (inside ++ byte ∷ rest) begin found
-told_longer raw inside byte rest begin found told =
-    subst (λ (text : List ℕ). Told raw text begin found) (append_assoc inside (byte ∷ []) rest) told
+found_longer : (raw : Bool) (inside : List ℕ) (byte : ℕ) (rest : List ℕ) (begin : ℕ) (found : Option ℕ)
+    → FoundAt raw ((inside ++ byte ∷ []) ++ rest) begin found → FoundAt raw (inside ++ byte ∷ rest) begin found
+found_longer raw inside byte rest begin found is_found =
+    subst (λ (text : List ℕ). FoundAt raw text begin found) (append_assoc inside (byte ∷ []) rest) is_found
 
-marked_before : (raw : Bool) (inside behind bytes : List ℕ) → raw ≡ false → HasNoMark inside → ArePassed raw behind bytes
-    → ArePassed raw behind ((33 ∷ inside ++ 33 ∷ []) ++ bytes)
-marked_before raw inside behind bytes has inner before =
-    subst (ArePassed raw behind) (sym (append_assoc (33 ∷ inside) (33 ∷ []) bytes)) (marked inside bytes has inner before)
+marked_before : (raw : Bool) (inside after bytes : List ℕ) → raw ≡ false → HasNoMark inside → ArePassed raw after bytes
+    → ArePassed raw after ((33 ∷ inside ++ 33 ∷ []) ++ bytes)
+marked_before raw inside after bytes has inner before =
+    subst (ArePassed raw after) (sym (append_assoc (33 ∷ inside) (33 ∷ []) bytes)) (marked inside bytes has inner before)
 
 mark_tells : (raw : Bool) (at byte : ℕ) (rest : List ℕ) → raw ≡ false
     → ((comment : Comment) → MayBeIn raw comment → Tells raw comment (at + 1) rest (skip_from raw comment (at + 1) rest))
     → (inside : List ℕ) (begin : ℕ) → HasNoMark inside → at ≡ begin + length (33 ∷ inside)
-    → Told raw (33 ∷ inside ++ byte ∷ rest) begin (or_later at (passed raw ToMark byte) (λ next. skip_from raw next (at + 1) rest))
+    → FoundAt raw (33 ∷ inside ++ byte ∷ rest) begin (or_later at (passed raw ToMark byte) (λ next. skip_from raw next (at + 1) rest))
 mark_tells raw at byte rest has later inside begin inner place =
-    let P : Option Comment → Type 0 = λ next. Told raw (33 ∷ inside ++ byte ∷ rest) begin (or_later at next (λ next. skip_from raw next (at + 1) rest)) in
+    let P : Option Comment → Type 0 = λ next. FoundAt raw (33 ∷ inside ++ byte ∷ rest) begin (or_later at next (λ next. skip_from raw next (at + 1) rest)) in
     cond_both (byte == 13) None _ P (λ test. let is = eqb-true byte 13 test in record {
       bytes = 33 ∷ inside;
-      behind = byte ∷ rest;
+      after = byte ∷ rest;
       whole = refl;
       ends = place;
       passed = unclosed inside has inner is;
@@ -240,36 +240,36 @@ mark_tells raw at byte rest has later inside begin inner place =
     }) (λ end. cond_both (byte == 33) (Some Outside) (Some ToMark) P (λ test.
     let is = eqb-true byte 33 test in
     let further : at + 1 ≡ begin + length (33 ∷ inside ++ 33 ∷ []) = omega (arith, length-append (33 ∷ inside) (33 ∷ [])) in
-    let told = subst (λ (from : ℕ). Told raw rest from (skip_from raw Outside (at + 1) rest)) further (later Outside tt) in
-    rw is (told_longer raw (33 ∷ inside) 33 rest begin _
-    (told_behind raw (33 ∷ inside ++ 33 ∷ []) rest begin _ (λ behind bytes before. marked_before raw inside behind bytes has inner before) told))) (λ mark. told_longer raw (33 ∷ inside) byte rest begin _
+    let is_found = subst (λ (from : ℕ). FoundAt raw rest from (skip_from raw Outside (at + 1) rest)) further (later Outside tt) in
+    rw is (found_longer raw (33 ∷ inside) 33 rest begin _
+    (found_further raw (33 ∷ inside ++ 33 ∷ []) rest begin _ (λ after bytes before. marked_before raw inside after bytes has inner before) is_found))) (λ mark. found_longer raw (33 ∷ inside) byte rest begin _
     (later ToMark has (inside ++ byte ∷ []) begin (no_mark_push inside byte inner (eqb-false byte 33 mark) (eqb-false byte 13 end))
     (omega (arith, length-append inside (byte ∷ []))))))
 
 semicolon_tells : (raw : Bool) (at byte : ℕ) (rest : List ℕ) → raw ≡ false
     → ((comment : Comment) → MayBeIn raw comment → Tells raw comment (at + 1) rest (skip_from raw comment (at + 1) rest))
     → (inside : List ℕ) (begin : ℕ) → HasNoEnd inside → at ≡ begin + length (59 ∷ inside)
-    → Told raw (59 ∷ inside ++ byte ∷ rest) begin (or_later at (passed raw ToEnd byte) (λ next. skip_from raw next (at + 1) rest))
+    → FoundAt raw (59 ∷ inside ++ byte ∷ rest) begin (or_later at (passed raw ToEnd byte) (λ next. skip_from raw next (at + 1) rest))
 semicolon_tells raw at byte rest has later inside begin inner place =
-    let P : Option Comment → Type 0 = λ next. Told raw (59 ∷ inside ++ byte ∷ rest) begin (or_later at next (λ next. skip_from raw next (at + 1) rest)) in
+    let P : Option Comment → Type 0 = λ next. FoundAt raw (59 ∷ inside ++ byte ∷ rest) begin (or_later at next (λ next. skip_from raw next (at + 1) rest)) in
     cond_both (byte == 13) None (Some ToEnd) P (λ test. let is = eqb-true byte 13 test in record {
       bytes = 59 ∷ inside;
-      behind = byte ∷ rest;
+      after = byte ∷ rest;
       whole = refl;
       ends = place;
       passed = to_end inside has inner is;
       other = other_at_end raw byte rest is;
-    }) (λ end. told_longer raw (59 ∷ inside) byte rest begin _
+    }) (λ end. found_longer raw (59 ∷ inside) byte rest begin _
     (later ToEnd has (inside ++ byte ∷ []) begin (no_end_push inside byte inner (eqb-false byte 13 end))
     (omega (arith, length-append inside (byte ∷ [])))))
 
 walk_tells : (raw : Bool) (comment : Comment) (at : ℕ) (rest : List ℕ) → MayBeIn raw comment
     → Tells raw comment at rest (skip_from raw comment at rest)
 walk_tells raw Outside at [] has =
-    record { bytes = []; behind = []; whole = refl; ends = omega arith; passed = nothing; other = tt }
+    record { bytes = []; after = []; whole = refl; ends = omega arith; passed = nothing; other = tt }
 walk_tells raw ToMark at [] has = λ inside begin inner place. record {
   bytes = [];
-  behind = 33 ∷ inside ++ [];
+  after = 33 ∷ inside ++ [];
   whole = refl;
   has_comments = has;
   passed = nothing;
@@ -277,7 +277,7 @@ walk_tells raw ToMark at [] has = λ inside begin inner place. record {
 }
 walk_tells raw ToEnd at [] has = λ inside begin inner place. record {
   bytes = [];
-  behind = 59 ∷ inside ++ [];
+  after = 59 ∷ inside ++ [];
   whole = refl;
   has_comments = has;
   passed = nothing;
@@ -292,10 +292,10 @@ walk_tells raw ToEnd at (byte ∷ rest) has =
 
 pub past_of_skip : (raw : Bool) (text : List ℕ) (at place : ℕ) → skip raw text at ≡ Some place
     → IsPast raw (drop at text) at place
-past_of_skip raw text at place is = subst (Told raw (drop at text) at) is (walk_tells raw Outside at (drop at text) tt)
+past_of_skip raw text at place is = subst (FoundAt raw (drop at text) at) is (walk_tells raw Outside at (drop at text) tt)
 
 pub open_of_skip : (raw : Bool) (text : List ℕ) (at : ℕ) → skip raw text at ≡ None → IsOpen raw (drop at text)
-open_of_skip raw text at is = subst (Told raw (drop at text) at) is (walk_tells raw Outside at (drop at text) tt)
+open_of_skip raw text at is = subst (FoundAt raw (drop at text) at) is (walk_tells raw Outside at (drop at text) tt)
 
 skip_from_goes_on : (raw : Bool) (comment : Comment) (at : ℕ) (rest more : List ℕ) (place : ℕ)
     → skip_from raw comment at rest ≡ Some place → (place ≡ at + length rest → BeginsOther raw more)

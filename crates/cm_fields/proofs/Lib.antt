@@ -1,11 +1,11 @@
 pub mod Ends
+pub mod FieldStarts
 pub mod LineEnds
-pub mod Trials
-pub mod Runs
-pub mod Skips
-pub mod QuotedTexts
 pub mod Marks
 pub mod Phrases
-pub mod FieldStarts
 pub mod QuotedNames
+pub mod QuotedTexts
 pub mod Reasons
+pub mod Runs
+pub mod Skips
+pub mod Trials

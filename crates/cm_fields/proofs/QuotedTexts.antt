@@ -1,4 +1,4 @@
--- The text behind an opening quote: one byte of it, and what decides.
+-- [quoted-text] The text after an opening quote: one byte of it, and what decides.
 use Rattle.std.proofs.Common.{◌≡◌, ◌≢◌, ℕ, ◌+◌, ◌-◌, ◌≤◌, Bool, true, false, ◌==◌, nat_le, if◌then◌else◌, List, [], ◌∷◌, ◌++◌, length, take, drop, get_or, refl, subst, arith}
 use Rattle.std.proofs.lemmas.Bool.Decides.{nat_tests}
 use Rattle.std.proofs.lemmas.List.{take_all}
@@ -21,7 +21,7 @@ use Rattle.cm_fields.proofs.Trials.{LooksBeyond, Reaches, ReachesIfAccept, holds
 no_cut : (byte : ℕ) → byte ≢ 13 → byte ≢ JOIN → is_cut byte ≡ false
 no_cut byte inner whole = let end = ne_eqb byte 13 inner in let join = ne_eqb byte JOIN whole in rw (end, join) refl
 
--- behind a byte that is neither a quote nor the end of the line or of its row
+-- after a byte that is neither a quote nor the end of the line or of its row
 pub plain_passed : (size written : ℕ) (inside : List ℕ) → 1 ≤ length inside → get_or inside 0 0 ≢ 13
     → get_or inside 0 0 ≢ JOIN → get_or inside 0 0 ≢ 34 → closing size written inside ≡ closing (size + 1) (written + 1) (take (length inside - 1) (drop 1 inside))
 plain_passed size written [] some inner whole plain = absurd (omega arith)
@@ -32,7 +32,7 @@ plain_passed size written (byte ∷ next ∷ more) some inner whole plain =
     let rest : take (length (byte ∷ next ∷ more) - 1) (next ∷ more) ≡ next ∷ more = take_all _ (next ∷ more) (omega arith) in
     rw (end, quote, rest)
 
--- behind a quote that stands twice
+-- after a quote that stands twice
 pub quote_passed : (size written : ℕ) (inside : List ℕ) → 2 ≤ length inside → get_or inside 0 0 ≡ 34
     → get_or inside 1 0 ≡ 34 → closing size written inside ≡ closing (size + 2) (written + 1) (take (length inside - 2) (drop 2 inside))
 quote_passed size written [] some quote second = absurd (omega arith)
@@ -41,27 +41,27 @@ quote_passed size written (byte ∷ next ∷ more) some quote second =
     let rest : take (length (byte ∷ next ∷ more) - 2) more ≡ more = take_all _ more (omega arith) in
     rw (quote, second, rest)
 
--- what is found stands behind at least so many bytes
-abbrev IsBehind : ℕ → Closing → Type 0
-IsBehind least (Closed size written) = least ≤ size
-IsBehind least (Cut size) = least ≤ size
-IsBehind least Unknown = Unit {0}
+-- what is found stands after at least so many bytes
+abbrev IsAfter : ℕ → Closing → Type 0
+IsAfter least (Closed size written) = least ≤ size
+IsAfter least (Cut size) = least ≤ size
+IsAfter least Unknown = Unit {0}
 
-behind_less : (less least : ℕ) (found : Closing) → less ≤ least → IsBehind least found → IsBehind less found
-behind_less less least (Closed size written) below is = omega arith
-behind_less less least (Cut size) below is = omega arith
-behind_less less least Unknown below is = tt
+after_less : (less least : ℕ) (found : Closing) → less ≤ least → IsAfter least found → IsAfter less found
+after_less less least (Closed size written) below is = omega arith
+after_less less least (Cut size) below is = omega arith
+after_less less least Unknown below is = tt
 
 -- what holds of both ways of a choice holds of it
-closing_behind : (size written : ℕ) (inside : List ℕ) → IsBehind size (closing size written inside)
-closing_behind size written [] = tt
-closing_behind size written (byte ∷ []) = cond_each (IsBehind size) (is_cut byte) (Cut size) Unknown (omega arith) tt
-closing_behind size written (byte ∷ next ∷ more) =
-    cond_each (IsBehind size) (is_cut byte) (Cut size) _ (omega arith)
-    (cond_each (IsBehind size) (byte == 34) _ _
-    (cond_each (IsBehind size) (next == 34) _ (Closed size written)
-    (behind_less size (size + 2) _ (omega arith) (closing_behind (size + 2) (written + 1) more)) (omega arith))
-    (behind_less size (size + 1) _ (omega arith) (closing_behind (size + 1) (written + 1) (next ∷ more))))
+closing_after : (size written : ℕ) (inside : List ℕ) → IsAfter size (closing size written inside)
+closing_after size written [] = tt
+closing_after size written (byte ∷ []) = cond_each (IsAfter size) (is_cut byte) (Cut size) Unknown (omega arith) tt
+closing_after size written (byte ∷ next ∷ more) =
+    cond_each (IsAfter size) (is_cut byte) (Cut size) _ (omega arith)
+    (cond_each (IsAfter size) (byte == 34) _ _
+    (cond_each (IsAfter size) (next == 34) _ (Closed size written)
+    (after_less size (size + 2) _ (omega arith) (closing_after (size + 2) (written + 1) more)) (omega arith))
+    (after_less size (size + 1) _ (omega arith) (closing_after (size + 1) (written + 1) (next ∷ more))))
 
 closing_within : (most size written : ℕ) (inside : List ℕ) → size + length inside ≤ most
     → IsWithin most (closing size written inside)
@@ -80,7 +80,7 @@ ClosingHolds end (Closed size written) other = size + 2 ≤ end → other ≡ Cl
 ClosingHolds end (Cut size) other = size + 1 ≤ end → other ≡ Cut size
 ClosingHolds end Unknown other = Unit {0}
 
-closing_beyond : (end least : ℕ) (found other : Closing) → IsBehind least found → end ≤ least → ClosingHolds end found other
+closing_beyond : (end least : ℕ) (found other : Closing) → IsAfter least found → end ≤ least → ClosingHolds end found other
 closing_beyond end least (Closed size written) other is beyond = λ seen. absurd (omega arith)
 closing_beyond end least (Cut size) other is beyond = λ seen. absurd (omega arith)
 closing_beyond end least Unknown other is beyond = tt
@@ -102,11 +102,11 @@ quote_beyond : (end size written byte next : ℕ) (more : List ℕ) (other : Clo
 quote_beyond end size written byte next more other room =
     cond_each (λ found. ClosingHolds end found other) (byte == 34) _ _
     (cond_each (λ found. ClosingHolds end found other) (next == 34) _ (Closed size written)
-    (closing_beyond end (size + 2) _ other (closing_behind (size + 2) (written + 1) more) (omega arith))
+    (closing_beyond end (size + 2) _ other (closing_after (size + 2) (written + 1) more) (omega arith))
     (λ seen. absurd (omega arith)))
-    (closing_beyond end (size + 1) _ other (closing_behind (size + 1) (written + 1) (next ∷ more)) (omega arith))
+    (closing_beyond end (size + 1) _ other (closing_after (size + 1) (written + 1) (next ∷ more)) (omega arith))
 
--- behind the last byte of the front, which alone decides only the end of the line
+-- after the last byte of the front, which alone decides only the end of the line
 last_holds : (end size written byte : ℕ) (more other : List ℕ) → end ≤ size + 1
     → ClosingHolds end (closing size written (byte ∷ more)) (closing size written (byte ∷ other))
 last_holds end size written byte [] [] room = cut_same end size byte _ _ tt
@@ -118,7 +118,7 @@ last_holds end size written byte (next ∷ more) (second ∷ other) room =
 closing_holds : (end size written : ℕ) (front more other : List ℕ) → end ≤ size + length front
     → ClosingHolds end (closing size written (front ++ more)) (closing size written (front ++ other))
 closing_holds end size written [] more other room =
-    closing_beyond end size (closing size written more) _ (closing_behind size written more) (omega arith)
+    closing_beyond end size (closing size written more) _ (closing_after size written more) (omega arith)
 closing_holds end size written (byte ∷ []) more other room = last_holds end size written byte more other (omega arith)
 closing_holds end size written (byte ∷ next ∷ front) more other room =
     cut_same end size byte _ _
@@ -184,7 +184,7 @@ quoted_reaches_if (byte ∷ rest) at =
     let reached = by_closing_reaches (length rest) at _ (closing_within (length rest) 0 0 rest (omega arith)) in
     cond_both (byte == 34) _ _ (ReachesIfAccept at (length (byte ∷ rest))) (λ _. rw (← size) reached) (λ _. tt)
 
--- an accepted quoted text ends in the text, and the byte behind it was looked at
+-- an accepted quoted text ends in the text, and the byte after it was looked at
 pub quoted_reaches : (rest : List ℕ) (at : ℕ) (value : Value) (looked end : ℕ) → quoted rest at ≡ Accept value looked end
     → Reaches at (length rest) looked end
 quoted_reaches rest at value looked end is = reaches_accepted at (length rest) (quoted rest at) value looked end (quoted_reaches_if rest at) is

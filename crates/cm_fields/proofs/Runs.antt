@@ -68,7 +68,7 @@ run_is_local is_part decide =
     is_local (λ rest at. by_run is_part (decide at) rest at) (λ front more other at. run_decided is_part (decide at) front more other at)
     (λ rest at. run_seen is_part (decide at) rest at)
 
--- an accepted run ends in the text, and the byte behind it was looked at
+-- an accepted run ends in the text, and the byte after it was looked at
 pub run_reaches : (is_part : ℕ → Bool) (decide : List ℕ → Result Value Code) (rest : List ℕ) (at : ℕ) (value : Value)
     (looked end : ℕ) → by_run is_part decide rest at ≡ Accept value looked end → Reaches at (length rest) looked end
 run_reaches is_part decide rest at value looked end is =

@@ -1,4 +1,4 @@
--- What is passed over before a field, where the text goes on otherwise.
+-- [blank] What is passed over before a field, where the text goes on otherwise.
 use Rattle.std.proofs.Common.{◌≡◌, ℕ, ◌+◌, ◌<◌, ◌≤◌, Bool, true, false, List, [], ◌∷◌, ◌++◌, length, drop, Option, Some, None, refl, subst, arith, length-drop, append-nil}
 use Rattle.std.proofs.lemmas.List.{drop-append-le}
 use Rattle.cm_text.specs.Bytes.{is_blank}
@@ -97,7 +97,7 @@ skip_stays raw text more at place is before =
     let whole : skip raw (text ++ []) at ≡ Some place = rw (append-nil text) is in
     skip_stays_before raw text [] more at place (omega (arith, reached.0)) whole before
 
--- the place found lies in the text, behind the one from which it is sought
+-- the place found lies in the text, after the one from which it is sought
 pub skip_within : (raw : Bool) (text : List ℕ) (at place : ℕ) → at ≤ length text → skip raw text at ≡ Some place
     → (at ≤ place) × (place ≤ length text)
 skip_within raw text at place within is =
@@ -109,7 +109,7 @@ skip_within raw text at place within is =
 pub record IsFound (found : Option ℕ) (least most : ℕ) : Type 0 where
   pub place : ℕ
   pub is : found ≡ Some place
-  pub behind : least ≤ place
+  pub after : least ≤ place
   pub within : place ≤ most
 
 -- the end of the line is passed over nowhere
@@ -123,21 +123,21 @@ end_not_passed raw ToEnd = refl
 finds_before_end : (raw : Bool) (comment : Comment) (at : ℕ) (rest : List ℕ)
     → IsFound (skip_from raw comment at (rest ++ 13 ∷ [])) at (at + length rest)
 finds_before_end raw comment at [] =
-    record { place = at; is = rw (end_not_passed raw comment) refl; behind = omega arith; within = omega arith }
+    record { place = at; is = rw (end_not_passed raw comment) refl; after = omega arith; within = omega arith }
 finds_before_end raw comment at (byte ∷ rest) = by (passed raw comment byte) (λ next. finds_before_end raw next (at + 1) rest)
   where
     by : (next : Option Comment) → ((next : Comment) → IsFound (skip_from raw next (at + 1) (rest ++ 13 ∷ [])) (at + 1) (at + 1 + length rest))
         → IsFound (or_later at next (λ next. skip_from raw next (at + 1) (rest ++ 13 ∷ []))) at (at + length (byte ∷ rest))
-    by None later = record { place = at; is = refl; behind = omega arith; within = omega arith }
+    by None later = record { place = at; is = refl; after = omega arith; within = omega arith }
     by (Some next) later =
         let found = later next in
-        record { place = found.place; is = found.is; behind = omega (arith, found.behind); within = omega (arith, found.within) }
+        record { place = found.place; is = found.is; after = omega (arith, found.after); within = omega (arith, found.within) }
 
--- in a finished text a place is found, not behind the end of the line
+-- in a finished text a place is found, not after the end of the line
 pub skip_finds : (raw : Bool) (line : List ℕ) (at : ℕ) → at ≤ length line
     → IsFound (skip raw (line ++ 13 ∷ []) at) at (length line)
 skip_finds raw line at within =
     let size = length-drop at line in
     let rest = drop-append-le at line (13 ∷ []) within in
     let found = finds_before_end raw Outside at (drop at line) in
-    record { place = found.place; is = rw rest found.is; behind = found.behind; within = omega (arith, found.within) }
+    record { place = found.place; is = rw rest found.is; after = found.after; within = omega (arith, found.within) }

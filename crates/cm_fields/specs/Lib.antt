@@ -1,8 +1,8 @@
+pub mod BeforeField
 pub mod Code
 pub mod Finish
 pub mod Local
 pub mod Mark
-pub mod Passed
 pub mod Phrase
 pub mod Quoted
 pub mod Reason

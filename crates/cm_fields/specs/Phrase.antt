@@ -13,7 +13,7 @@ use Rattle.cm_fields.specs.declared.value.Value.TheVariants.{Noise, Token}
 abbrev pub is_inside : ℕ → Bool
 is_inside byte = not (byte == 41 || byte == 13)
 
--- behind the opening parenthesis: a beginning of the phrase, and the closing parenthesis, which decides, as
+-- after the opening parenthesis: a beginning of the phrase, and the closing parenthesis, which decides, as
 -- the end of the line does
 unfoldable pub typed_noise : List ℕ → List ℕ → ℕ → Try
 typed_noise phrase inside at =

@@ -14,7 +14,7 @@ use Rattle.cm_fields.specs.Try.{span}
 abbrev pub is_cut : ℕ → Bool
 is_cut byte = byte == 13 || byte == JOIN
 
--- how the text behind the opening quote goes on, behind so many bytes of it, which write so many: the closing
+-- how the text after the opening quote goes on, after so many bytes of it, which write so many: the closing
 -- quote stands there; the line or its row ends there; or the text ends before that is known
 abbrev pub closing : ℕ → ℕ → List ℕ → Closing
 closing size written [] = Unknown
@@ -31,7 +31,7 @@ IsWithin most (Closed size written) = size + 2 ≤ most
 IsWithin most (Cut size) = size + 1 ≤ most
 IsWithin most Unknown = Unit {0}
 
--- the byte behind the closing quote decides
+-- the byte after the closing quote decides
 abbrev pub by_closing : ℕ → Closing → Try
 by_closing at (Closed size written) =
     if nat_le written NAME_LIMIT
@@ -40,6 +40,7 @@ by_closing at (Closed size written) =
 by_closing at (Cut size) = Refuse NoQuote (size + 2)
 by_closing at Unknown = More
 
+-- [quoted-text]
 abbrev pub quoted : List ℕ → ℕ → Try
 quoted [] at = More
 quoted (byte ∷ rest) at = if byte == 34 then by_closing at (closing 0 0 rest) else Refuse NotQuoted 1

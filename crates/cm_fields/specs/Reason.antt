@@ -1,5 +1,5 @@
 -- Why an application refuses: a number for the log and a text for the screen.
-use Rattle.std.specs.Prelude.{ℕ, ◌-◌, ◌&&◌, ◌++◌, nat_le, nat_lt, if◌then◌else◌, Bool, List, length, replicate, Option, None, Some}
+use Rattle.std.specs.Prelude.{ℕ, ◌&&◌, nat_le, nat_lt, if◌then◌else◌, Bool, List, length, Option, None, Some}
 use Rattle.std.specs.List.{list_all}
 use Rattle.cm_text.specs.declared.name.TheConstants.{NAME_LIMIT}
 use Rattle.cm_fields.specs.declared.reason.TheConstants.{OWN_NUMBER}
@@ -23,7 +23,3 @@ is_reason number text = nat_le OWN_NUMBER number && is_reason_text text
 -- the reason with this number and text, where they may be its
 abbrev pub reason_of : ℕ → List ℕ → Option ReasonView
 reason_of number text = if is_reason number text then Some (record { number = number; text = text }) else None
-
--- a text in the room for the longest
-abbrev pub padded : List ℕ → List ℕ
-padded text = text ++ replicate (NAME_LIMIT - length text) 0

@@ -5,7 +5,7 @@ use Rattle.cm_text.specs.Bytes.{is_blank}
 use Rattle.cm_fields.specs.declared.skipped.Comment.{Comment}
 use Rattle.cm_fields.specs.declared.skipped.Comment.TheVariants.{Outside, ToMark, ToEnd}
 
--- where the text goes on behind a byte that is passed over; none where the byte is not passed
+-- where the text goes on after a byte that is passed over; none where the byte is not passed
 abbrev pub passed : Bool → Comment → ℕ → Option Comment
 passed raw Outside byte =
     if is_blank byte then Some Outside
@@ -30,7 +30,7 @@ skip_from raw comment at [] = ended comment at
 skip_from raw comment at (byte ∷ rest) =
     or_later at (passed raw comment byte) (λ next. skip_from raw next (at + 1) rest)
 
--- the first place past blanks and, unless they are plain bytes here, comments; none where a comment is not
+-- [blank] the first place past blanks and, unless they are plain bytes here, comments; none where a comment is not
 -- ended
 abbrev pub skip : Bool → List ℕ → ℕ → Option ℕ
 skip raw text at = skip_from raw Outside at (drop at text)

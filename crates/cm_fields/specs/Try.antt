@@ -16,7 +16,7 @@ abbrev pub said : ℕ → ℕ → ℕ → Result Value Code → Try
 said at size looked (Ok value) = Accept value looked (at + size)
 said at size looked (Err code) = Refuse code looked
 
--- a run of such bytes, which the byte behind it ends; where the text ends with the run, more is wanted
+-- a run of such bytes, which the byte after it ends; where the text ends with the run, more is wanted
 abbrev pub by_run : (ℕ → Bool) → (List ℕ → Result Value Code) → List ℕ → ℕ → Try
 by_run is_part decide rest at =
     let size = prefix_len is_part rest in

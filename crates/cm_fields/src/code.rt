@@ -18,7 +18,7 @@ pub enum Code {
     Ambiguous,
     /// There is no `/` where a switch is due.
     NotSwitch,
-    /// A switch that takes a value has no colon behind it.
+    /// A switch that takes a value has no colon after it.
     NeedColon,
     /// What stands in parentheses is no beginning of the guide word, or they are not closed.
     BadNoise,

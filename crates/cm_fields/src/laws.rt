@@ -4,7 +4,7 @@ ghost use Rattle.cm_fields.specs.Code.{code_number, code_text, is_own};
 ghost use Rattle.cm_fields.specs.Finish.{DecidesFinished, has_no_end};
 ghost use Rattle.cm_fields.specs.Local.{IsLocal};
 ghost use Rattle.cm_fields.specs.Mark.{comma, confirm};
-ghost use Rattle.cm_fields.specs.Passed.{IsOpen, IsPast};
+ghost use Rattle.cm_fields.specs.BeforeField.{IsOpen, IsPast};
 ghost use Rattle.cm_fields.specs.Phrase.{noise, token};
 ghost use Rattle.cm_fields.specs.Quoted.{quoted};
 ghost use Rattle.cm_fields.specs.Reason.{is_reason_text};
@@ -34,8 +34,8 @@ pub fn skip_stays()
         → skip raw text at ≡ Some place → place < length text → skip raw (text ++ more) at ≡ Some place }
 {}
 
-/// Skip gives a place exactly where blanks and whole comments reach to it and neither stands behind them, and
-/// none exactly where a comment stands behind them that nothing ends.
+/// Skip gives a place exactly where blanks and whole comments reach to it and neither stands after them, and
+/// none exactly where a comment stands after them that nothing ends.
 pub fn skip_passes_blanks_and_comments()
     ensures past { (raw : Bool) → (text : List ℕ) → (at : ℕ) → (place : ℕ)
         → skip raw text at ≡ Some place → IsPast raw (drop at text) at place }

@@ -31,7 +31,7 @@ fn same_letters(phrase: &[u8], rest: &[u8]) -> usize
         .count()
 }
 
-// What stands behind an opening parenthesis.
+// What stands after an opening parenthesis.
 #[tactic(auto, unfolding(crate::specs::Phrase::typed_noise))]
 fn typed_noise(phrase: &str, inside: &[u8], at: usize) -> Try
     requires { at + length inside.now ≤ TEXT_LIMIT }

@@ -7,17 +7,17 @@ use crate::trial::{said, span_of};
 use crate::{Code, Try, Value};
 use cm_text::{JOIN, NAME_LIMIT, Name, TEXT_LIMIT};
 
-// How the text behind an opening quote goes on.
+// How the text after an opening quote goes on.
 enum Closing {
-    // The closing quote stands behind so many bytes, which write so many.
+    // The closing quote stands after so many bytes, which write so many.
     Closed { size: usize, written: usize },
-    // The line, or a row of it, ends behind so many bytes.
+    // The line, or a row of it, ends after so many bytes.
     Cut(usize),
     // The text ends before that is known.
     Unknown,
 }
 
-// How the text behind an opening quote goes on, behind so many bytes of it, which write so many.
+// How the text after an opening quote goes on, after so many bytes of it, which write so many.
 #[tactic(auto, using(crate::proofs::QuotedTexts::plain_passed, crate::proofs::QuotedTexts::quote_passed))]
 fn closing_from(size: usize, written: usize, inside: &[u8]) -> Closing
     requires size { size + length inside.now ≤ TEXT_LIMIT }
@@ -61,6 +61,7 @@ fn by_closing(at: usize, found: Closing) -> Try
 pub fn quoted(text: &[u8], at: usize) -> Try
     requires short { length text.now ≤ TEXT_LIMIT }
     requires place { at ≤ length text.now }
+    // [quoted-text]
     ensures { result ≡ quoted (drop at text.now) at }
 {
     match &text[at..] {
@@ -81,7 +82,7 @@ pub fn unquoted(text: &[u8]) -> Name
     name
 }
 
-// Puts what a quoted text says behind a name, as far as it fits.
+// Puts what a quoted text says after a name, as far as it fits.
 #[tactic(auto, using(cm_lists::proofs::Ascii::IsAscii_rest, crate::proofs::QuotedNames::pushed_within, crate::proofs::QuotedNames::nothing_pushed))]
 fn push_unquoted(name: &mut Name, text: &[u8])
     requires ascii { IsAscii text.now }
@@ -92,14 +93,14 @@ fn push_unquoted(name: &mut Name, text: &[u8])
         [] => {}
         [byte, more @ ..] => {
             name.push(*byte);
-            push_unquoted(name, behind_byte(*byte, more));
+            push_unquoted(name, after_byte(*byte, more));
         }
     }
 }
 
-// What is left of a quoted text behind a byte, where this goes on: a quote that stands twice is passed whole.
+// What is left of a quoted text after a byte, where this goes on: a quote that stands twice is passed whole.
 #[tactic(auto, using(cm_lists::proofs::Ascii::IsAscii_rest, crate::proofs::QuotedNames::plain_passed, crate::proofs::QuotedNames::quote_passed, crate::proofs::QuotedNames::lone_quote_passed, crate::proofs::QuotedNames::last_passed))]
-fn behind_byte(byte: u8, more: &[u8]) -> &[u8]
+fn after_byte(byte: u8, more: &[u8]) -> &[u8]
     requires { IsAscii more.now }
     ensures said { unquoted (byte ∷ more.now) ≡ byte ∷ unquoted result.now }
     ensures ascii { IsAscii result.now }

@@ -1,10 +1,10 @@
 // Reasons of an application's own.
-ghost use Rattle.std.specs.Prelude.{◌≡◌, ◌≤◌, length, true};
+ghost use Rattle.std.specs.Prelude.{◌≡◌, ◌≤◌, true};
 ghost use Rattle.std.specs.List.{list_all};
 ghost use Rattle.std.specs.Str.{IsAscii};
-ghost use Rattle.cm_fields.specs.Reason.{is_printing, is_reason, is_reason_text, padded, reason_of};
+ghost use Rattle.cm_fields.specs.Reason.{is_printing, is_reason, is_reason_text, reason_of};
 
-use cm_text::NAME_LIMIT;
+use cm_text::{NAME_LIMIT, pad};
 use std::marker::Model;
 use std::{fmt, str};
 
@@ -17,7 +17,7 @@ pub const OWN_NUMBER: u8 = 128;
 pub struct Reason {
     number: u8,
     size: u8,
-    // Zeros stand behind the text.
+    // Zeros stand after the text.
     bytes: [u8; NAME_LIMIT],
 }
 
@@ -25,7 +25,8 @@ impl Model for Reason {
     ghost use Rattle.std.specs.Prelude.{◌≡◌, ◌≤◌, length, take, true};
     ghost use Rattle.std.proofs.Common.{arith, length-take-le, sym};
     ghost use Rattle.cm_text.specs.declared.name.TheConstants.{NAME_LIMIT};
-    ghost use Rattle.cm_fields.specs.Reason.{ReasonView, is_reason, padded};
+    ghost use Rattle.cm_text.specs.Padding.{padded};
+    ghost use Rattle.cm_fields.specs.Reason.{ReasonView, is_reason};
 
     ghost Value = { ReasonView };
 
@@ -72,16 +73,6 @@ fn is_reason(number: u8, text: &[u8]) -> bool
     number >= OWN_NUMBER && is_reason_text(text)
 }
 
-// The bytes of a text, with zeros behind them.
-fn padded(text: &[u8]) -> [u8; NAME_LIMIT]
-    requires { length text.now ≤ NAME_LIMIT }
-    ensures { result ≡ padded text.now }
-{
-    let mut bytes = [0; NAME_LIMIT];
-    bytes[..text.len()].copy_from_slice(text);
-    bytes
-}
-
 // The text of ASCII bytes.
 #[tactic(auto, using(cm_lists::proofs::Ascii::text_of_ascii))]
 fn ascii(bytes: &[u8]) -> &str
@@ -108,11 +99,12 @@ impl Reason {
         Some(Reason {
             number,
             size: bytes.len() as u8,
-            bytes: padded(bytes),
+            bytes: pad(bytes),
         })
     }
 
-    /// The reason with a number and a text that are known to be one's, as a program's own are, whose proof computes that.
+    /// The reason with a number and a text that are known to be one's, as a program's own are, whose proof computes
+    /// that.
     pub fn of(number: u8, text: &str) -> Reason
         requires { is_reason number text.now ≡ true }
         ensures { result ≡ record { number = number; text = text.now } }

@@ -17,7 +17,7 @@ enum Comment {
     ToEnd,
 }
 
-// Where the text goes on behind a byte that is passed over; none where the byte is not passed.
+// Where the text goes on after a byte that is passed over; none where the byte is not passed.
 fn passed(raw: bool, comment: Comment, byte: u8) -> Option<Comment>
     ensures { result ≡ passed raw comment byte }
 {
@@ -39,11 +39,12 @@ fn blank_run(rest: &[u8]) -> usize
     rest.iter().take_while(|byte| is_blank(**byte)).count()
 }
 
-/// The first place at or behind `at` that is past blanks and, unless the text is raw, comments. A comment goes
+/// The first place at or after `at` that is past blanks and, unless the text is raw, comments. A comment goes
 /// from `!` to the next `!`, or from `;` or an unclosed `!` to the carriage return. None exactly where a comment
 /// is not ended in a text that is not finished.
 pub fn skip(raw: bool, text: &[u8], at: usize) -> Option<usize>
     requires { at ≤ length text.now }
+    // [blank]
     ensures value { result ≡ skip raw text.now at }
     ensures within { IfSome result (λ place. (at ≤ place) × (place ≤ length text.now)) }
 {

@@ -13,7 +13,7 @@ pub enum Try {
         value: Value,
         /// How many bytes from the place decided.
         looked: u16,
-        /// The place behind the field.
+        /// The place after the field.
         end: u16,
     },
     /// There is no such field here, however the text goes on.

@@ -1,11 +1,11 @@
 // What a field stands for.
 
-/// A part of a text: the bytes from `start` up to `end`, which is the place behind the last.
+/// A part of a text: the bytes from `start` up to `end`, which is the place after the last.
 #[derive(Clone, Copy, Debug, PartialEq, Eq)]
 pub struct Span {
     /// The place of its first byte.
     pub start: u16,
-    /// The place behind its last byte.
+    /// The place after its last byte.
     pub end: u16,
 }
 
@@ -36,7 +36,7 @@ pub struct Spec {
     pub directory: Option<Span>,
     /// The name.
     pub name: Option<Span>,
-    /// The type, without the point before it; empty behind a point that nothing follows.
+    /// The type, without the point before it; empty after a point that nothing follows.
     pub kind: Option<Span>,
     /// The generation.
     pub generation: Gen,

@@ -25,12 +25,13 @@ P A/AFTER:5-JAN-70\r|10|Accept { value: Date(4), looked: 9, end: 18 }
 5-JAN-1970|0|More
 |0|More";
 
+// [date]
 #[test]
 fn takes_dates(rt: HostRuntime) -> Result<(), Fail> {
     tries(&rt, rt.alloc(), Trial::Date, DATES)
 }
 
-// Each with the end of the line behind it, which is looked at.
+// Each with the end of the line after it, which is looked at.
 const SHAPES: &str = "\
 \r|0|Refuse { code: BadDate, looked: 1 }
 -\r|0|Refuse { code: BadDate, looked: 2 }

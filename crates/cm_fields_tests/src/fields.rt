@@ -184,7 +184,7 @@ fn each_code_has_its_number_and_text(rt: HostRuntime) -> Result<(), Fail> {
     Ok(())
 }
 
-// 255 digits are a small number behind zeros, and a large one that is small where it wraps.
+// 255 digits are a small number after zeros, and a large one that is small where it wraps.
 const NUMBERS: &str = "\
 |0|More
 12|0|More
@@ -315,6 +315,7 @@ A\"\r|0|Refuse { code: NotQuoted, looked: 1 }
 \"AB\r|0|Refuse { code: NoQuote, looked: 4 }
 \"A\"\"\r|0|Refuse { code: NoQuote, looked: 5 }";
 
+// [quoted-text]
 #[test]
 fn takes_quoted_texts(rt: HostRuntime) -> Result<(), Fail> {
     tries(&rt, rt.alloc(), Trial::Quoted, QUOTED_TEXTS)
@@ -409,6 +410,7 @@ fn skips(rt: &impl Abort, alloc: Global, case: &str) -> Result<(), Fail> {
     Ok(())
 }
 
+// [blank]
 #[test]
 fn passes_over_blanks_and_comments(rt: HostRuntime) -> Result<(), Fail> {
     for case in SKIPS.lines() {

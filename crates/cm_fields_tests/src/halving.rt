@@ -59,6 +59,7 @@ fn finds(rt: &impl Abort, table: &Table, atom: &str, wanted: Look, read: u64) {
     assert_eq!(rt; reads, read, "{atom}");
 }
 
+// [look-up-cost]
 #[test]
 fn a_look_up_in_1024_entries_asks_11_times(rt: HostRuntime) -> Result<(), Fail> {
     let table = table(&rt, rt.alloc())?;

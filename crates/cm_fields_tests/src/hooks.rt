@@ -73,6 +73,7 @@ fn judges_a_field(rt: &impl Abort, alloc: Global, case: &str) -> Result<(), Fail
     Ok(())
 }
 
+// [own-field]
 #[test]
 fn rules_judge_a_field(rt: HostRuntime) -> Result<(), Fail> {
     for case in FIELDS.lines() {

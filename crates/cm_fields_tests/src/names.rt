@@ -2,7 +2,7 @@
 ghost use Rattle.std.specs.Prelude.{◌≤◌, length};
 
 use crate::cases::{is_wanted, part};
-use cm_text::{NAME_LIMIT, Name};
+use cm_text::{NAME_LIMIT, Name, pad};
 use std::alloc::Global;
 use std::process::Abort;
 use std::test::Fail;
@@ -20,6 +20,13 @@ fn a_name_is_its_text(rt: HostRuntime) {
     is_its_text(&rt, "");
     is_its_text(&rt, "EXIT");
     is_its_text(&rt, "A-NAME-OF-THIRTY-NINE-BYTES-IN-LENGTH-1");
+}
+
+#[test]
+fn zeros_stand_after_a_short_text(rt: HostRuntime) {
+    let bytes = pad(b"EXIT");
+    assert_eq!(rt; &bytes[..4], b"EXIT".as_slice());
+    assert!(rt; bytes[4..].iter().all(|byte| *byte == 0));
 }
 
 // A text, and whether it takes one more byte and what it is then.

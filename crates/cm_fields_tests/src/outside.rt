@@ -126,7 +126,7 @@ fn loading_from_memory(rt: HostRuntime) -> Result<(), Fail> {
 fn put_three<S: Sink>(piece: &[u8], sink: &mut S) -> Put {
     let mut out = Writer::new(sink);
     out.put_times(3, piece);
-    out.went()
+    out.outcome()
 }
 
 #[test]

@@ -26,14 +26,14 @@ fn makes_a_code(rt: &impl Abort, alloc: Global, case: &str) -> Result<(), Fail> 
     let number = number(rt, part(rt, case, 0));
     assert!(rt; number <= 255, "{case}");
     let told = match Reason::new(number as u8, part(rt, case, 1)) {
-        Some(reason) => told_of(alloc, Code::Own(reason))?,
+        Some(reason) => contents_of(alloc, Code::Own(reason))?,
         None => format!(in alloc; "None")?,
     };
     is_wanted(rt, case, told.as_str());
     Ok(())
 }
 
-fn told_of(alloc: Global, code: Code) -> Result<String, Fail> {
+fn contents_of(alloc: Global, code: Code) -> Result<String, Fail> {
     Ok(format!(in alloc; "{} {}", code.number(), code.text())?)
 }
 

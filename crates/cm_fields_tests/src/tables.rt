@@ -21,7 +21,7 @@ fn entry(text: &str, flag: Flag) -> Entry
     }
 }
 
-// What stands behind the colon of a keyword: its flag, or the position of the entry that it stands for.
+// What stands after the colon of a keyword: its flag, or the position of the entry that it stands for.
 fn flag_of(rt: &impl Abort, word: &str) -> Flag {
     match word {
         "" => Flag::Plain,
@@ -148,6 +148,7 @@ look|K|Abbrev(1)
 look|X|None
 look|I|Abbrev(0)";
 
+// [abbreviation]
 #[test]
 fn looks_up_unrecognised_entries(rt: HostRuntime) -> Result<(), Fail> {
     let keywords = "INFORMATION KJOB:Invisible L:NoRecognise LO:NoRecognise LOGOUT";

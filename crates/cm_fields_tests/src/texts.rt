@@ -92,7 +92,7 @@ fn case_means_nothing(rt: HostRuntime) -> Result<(), Fail> {
     Ok(())
 }
 
-// How many bytes the two begin with alike. What is alike behind a difference does not count.
+// How many bytes the two begin with alike. What is alike after a difference does not count.
 const BEGINNINGS: &str = "\
 ||0
 |LOGIN|0

@@ -10,7 +10,7 @@ use Rattle.cm_lists.proofs.Quantifiers.{all_kept_at}
 use Rattle.cm_files.specs.declared.row.FileRow.{FileRow}
 use Rattle.cm_files.specs.Catalogue.{Catalogue, IsCatalogue, rows_of}
 use Rattle.cm_files.specs.Neighbours.{is_bottom, is_top, mark_of_same}
-use Rattle.cm_files.specs.Passing.{passes_at}
+use Rattle.cm_files.specs.RowTrials.{passes_at}
 use Rattle.cm_files.specs.Pattern.{matches}
 use Rattle.cm_files.specs.Selection.{Wanted, agree, is_same_file, is_seen, name_matches}
 use Rattle.cm_files.proofs.RowOrder.{between, lower_generation, rows_ascend}
@@ -118,7 +118,7 @@ not_with w row other unlike = by (cases_Bool (is_same_file other row))
     by (inl same) = absurd (unlike same)
     by (inr differ) = and_right _ _ differ
 
--- behind a row of another file none is of the file of this one
+-- after a row of another file none is of the file of this one
 clear_to_end : (c : Catalogue) → IsCatalogue c → (directory i j : ℕ) (w : Wanted) (row : FileRow)
     → slice_get (rows_of c directory) i ≡ Some row → i < j → j < length (rows_of c directory)
     → IsClear w (rows_of c directory) row (i + 1) j
@@ -137,9 +137,9 @@ clear_to_end c lawful directory i j w row at below within clear none =
         (let first = subst (λ (n : ℕ). slice_get (rows_of c directory) n ≡ Some other) here is in cc) in
         and_right _ _ (subst (λ (each : FileRow). is_same_file each row ≡ false) same differs)
     by middle there differs k other after is (inr (inl before)) = clear.clear k other after before is
-    by middle there differs k other after is (inr (inr behind)) = not_with w row other (λ same.
+    by middle there differs k other after is (inr (inr beyond)) = not_with w row other (λ same.
         let texts = same_texts other row same in
-        let texts_between = between row middle other (rows_ascend c lawful directory i j row middle below at there) (rows_ascend c lawful directory j k middle other behind there is) texts.0 texts.1 in
+        let texts_between = between row middle other (rows_ascend c lawful directory i j row middle below at there) (rows_ascend c lawful directory j k middle other beyond there is) texts.0 texts.1 in
         let alike : is_same_file middle row ≡ true = texts_same middle row (sym texts_between.0) (sym texts_between.1) in
         cc)
 
@@ -161,7 +161,7 @@ clear_to_start c lawful directory i j w row at below clear none =
         let same : middle ≡ other =
         (let first = subst (λ (n : ℕ). slice_get (rows_of c directory) n ≡ Some other) here is in cc) in
         and_right _ _ (subst (λ (each : FileRow). is_same_file each row ≡ false) same differs)
-    by middle there differs k other before is (inr (inr behind)) = clear.clear k other (omega arith) before is
+    by middle there differs k other before is (inr (inr beyond)) = clear.clear k other (omega arith) before is
     by middle there differs k other before is (inr (inl ahead)) = not_with w row other (λ same.
         let texts = same_texts other row same in
         let texts_between = between other middle row (rows_ascend c lawful directory k j other middle ahead is there) (rows_ascend c lawful directory j i middle row below there at) (sym texts.0) (sym texts.1) in
@@ -181,7 +181,7 @@ all_of_kept test keep (row ∷ rows) all =
     by true kept rest = and_from _ _ (all 0 row refl kept) rest
     by false kept rest = rest
 
--- with no such row behind it, a row has the highest generation
+-- with no such row after it, a row has the highest generation
 top_is : (c : Catalogue) → IsCatalogue c → (directory i : ℕ) (w : Wanted) (row : FileRow)
     → slice_get (rows_of c directory) i ≡ Some row
     → IsClear w (rows_of c directory) row (i + 1) (length (rows_of c directory)) → is_top w (rows_of c directory) row ≡ true
@@ -199,7 +199,7 @@ top_is c lawful directory i w row at clear =
         let texts = same_texts other row (and_parts _ _ kept).1 in
         let lower = lower_generation other row texts.0 texts.1 (rows_ascend c lawful directory k i other row before is at) in
         le-leb _ _ (omega arith)
-    by k other is kept (inr (inr behind)) =
+    by k other is kept (inr (inr beyond)) =
         let none = clear.clear k other (omega arith) (slice_get_within (rows_of c directory) k other is) is in absurd (cc)
 
 -- with no such row before it, it has the lowest
@@ -216,9 +216,9 @@ bottom_is c lawful directory i w row at clear =
         (let first = subst (λ (n : ℕ). slice_get (rows_of c directory) n ≡ Some other) here is in cc) in
         let equal = ap (λ each. each.generation) same in
         le-leb _ _ (omega arith)
-    by k other is kept (inr (inr behind)) =
+    by k other is kept (inr (inr beyond)) =
         let texts = same_texts other row (and_parts _ _ kept).1 in
-        let lower = lower_generation row other (sym texts.0) (sym texts.1) (rows_ascend c lawful directory i k row other behind at is) in
+        let lower = lower_generation row other (sym texts.0) (sym texts.1) (rows_ascend c lawful directory i k row other beyond at is) in
         le-leb _ _ (omega arith)
     by k other is kept (inr (inl before)) = let none = clear.clear k other (omega arith) before is in absurd (cc)
 
@@ -231,7 +231,7 @@ with_other c directory j w row other seen is mark =
     let texts = same_texts other row found.0 in
     and_from _ _ (seen_alike w row other seen texts.0 texts.1 found.1) found.0
 
--- one of them behind a row, and it has not the highest generation
+-- one of them after a row, and it has not the highest generation
 top_is_not : (c : Catalogue) → IsCatalogue c → (directory i j : ℕ) (w : Wanted) (row : FileRow)
     → slice_get (rows_of c directory) i ≡ Some row → is_seen w row ≡ true → i < j → j < length (rows_of c directory)
     → Some true ≡ option_and_then (mark_of_same row w.deleted) (slice_get (rows_of c directory) j)
@@ -264,7 +264,7 @@ passed : (test : FileRow → Bool) (rows : List FileRow) (i : ℕ) (row : FileRo
     → passes_at test rows i ≡ test row
 passed test rows i row is = ap (λ found. option_map_or test found false) is
 
--- the walk behind a row: it meets another file, one that is seen, or the end
+-- the walk after a row: it meets another file, one that is seen, or the end
 pub top_ends : (c : Catalogue) → IsCatalogue c → (directory i j : ℕ) (w : Wanted) (row : FileRow)
     → slice_get (rows_of c directory) i ≡ Some row → IsClear w (rows_of c directory) row (i + 1) j → i < j
     → j < length (rows_of c directory)
@@ -316,7 +316,7 @@ bottom_past c lawful directory i j w row at clear none =
     record { clear = λ k other after before is. clear.clear k other (omega arith) before is } in
     sym (passed _ (rows_of c directory) i row at ∙ bottom_is c lawful directory i w row at all)
 
--- the goals of the walk behind a row, and of the one before it
-pub ruleset walk_behind = (clear_none, clear_up, top_ends, top_fails, top_past)
+-- the goals of the walk after a row, and of the one before it
+pub ruleset walk_after = (clear_none, clear_up, top_ends, top_fails, top_past)
 
 pub ruleset walk_before = (clear_none, clear_down, bottom_ends, bottom_fails, bottom_past)

@@ -1,4 +1,4 @@
--- One pass tells whether a row is selected: where some row may be, one is.
+-- [file-field] One pass tells whether a row is selected: where some row may be, one is.
 -- That some row is selected is one lemma over may_pass, for any total order.
 use Rattle.std.proofs.Common.{◌≡◌, ℕ, ◌<◌, ◌≤◌, Bool, true, false, ◌&&◌, ◌||◌, nat_le, ◌⊎◌, inl, inr, List, [], ◌∷◌, filter, refl, ap, arith, ◌∙◌, sym, subst}
 use Rattle.std.specs.List.{list_all, list_any}
@@ -10,7 +10,7 @@ use Rattle.cm_lists.proofs.Texts.{bytes_eq-true, bytes_eq_itself}
 use Rattle.cm_fields.specs.declared.value.Gen.{Gen}
 use Rattle.cm_fields.specs.declared.value.Gen.TheVariants.{Missing, Highest, Next, Lowest, All, Number}
 use Rattle.cm_files.specs.declared.row.FileRow.{FileRow}
-use Rattle.cm_files.specs.Passing.{may_pass, may_take}
+use Rattle.cm_files.specs.RowTrials.{may_pass, may_take}
 use Rattle.cm_files.specs.Selection.{Wanted, is_same_file, is_seen, is_selected, seen_with, selects, takes}
 
 -- a row of a list: where it passes a test, some row of the list does
@@ -35,8 +35,8 @@ found test (row ∷ rows) some = by (or_cases (test row) (list_any test rows) so
     by : (test row ≡ true) ⊎ (list_any test rows ≡ true) → (list_any test rows ≡ true → Found test rows) → Found test (row ∷ rows)
     by (inl here) rest = record { row = row; passes = here; inside = in_first row rows }
     by (inr later) rest =
-        let behind = rest later in
-        record { row = behind.row; passes = behind.passes; inside = in_more behind.row row rows behind.inside }
+        let after = rest later in
+        record { row = after.row; passes = after.passes; inside = in_more after.row row rows after.inside }
 
 -- an order of generations, upward or downward
 record IsOrder (below : ℕ → ℕ → Bool) : Type 0 where
@@ -120,12 +120,12 @@ best below order test (row ∷ rows) some =
       above = rw (here, filter_of_none test rows there) (and_from _ _ (either_itself below order row.generation) refl);
     }
     by false here later there is rest =
-        let behind = rest (there ∙ is) in
+        let after = rest (there ∙ is) in
         record {
-          row = behind.row;
-          passes = behind.passes;
-          inside = in_more behind.row row rows behind.inside;
-          above = rw here behind.above;
+          row = after.row;
+          passes = after.passes;
+          inside = in_more after.row row rows after.inside;
+          above = rw here after.above;
         }
 
 itself : (row : FileRow) → is_same_file row row ≡ true

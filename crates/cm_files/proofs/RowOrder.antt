@@ -13,7 +13,8 @@ use Rattle.cm_lists.proofs.Numbers.{nat_cmp_itself, nat_cmp_less}
 use Rattle.cm_lists.proofs.Orders.{equal_from_reverse, is_lt-true, is_lt_from_less, then_squeeze}
 use Rattle.cm_lists.proofs.Quantifiers.{all_at, all_filter, all_kept}
 use Rattle.cm_files.specs.declared.row.FileRow.{FileRow}
-use Rattle.cm_files.specs.Catalogue.{Catalogue, IsCatalogue, ascends, by_bytes, by_file, rows_of}
+use Rattle.cm_lists.specs.Ascent.{ascends}
+use Rattle.cm_files.specs.Catalogue.{Catalogue, IsCatalogue, by_bytes, by_file, rows_of}
 
 by_file_total : IsTotalOrder by_file
 by_file_total =
@@ -21,7 +22,7 @@ by_file_total =
     (then_total (on_texts (λ (row : FileRow). row.name))
     (then_total (on_texts (λ (row : FileRow). row.kind)) (on_total (λ (row : FileRow). row.generation) nat_cmp_total)))
 
--- a list whose every element stands below all behind it
+-- a list whose every element stands below all after it
 abbrev all_above : FileRow → List FileRow → Bool
 all_above row rows = list_all (λ other. is_lt (by_file row other)) rows
 
@@ -75,7 +76,7 @@ by_rest row other =
 pub text_itself : (text : List ℕ) → by_bytes text text ≡ Equal
 text_itself text = equal_from_reverse (by_bytes text text) (nat_list_cmp_total.antisymm text text)
 
--- each row of a directory stands below those behind it
+-- each row of a directory stands below those after it
 pub rows_ascend : (c : Catalogue) → IsCatalogue c → (directory i j : ℕ) (row other : FileRow) → i < j
     → slice_get (rows_of c directory) i ≡ Some row → slice_get (rows_of c directory) j ≡ Some other → by_rest row other ≡ Less
 rows_ascend c lawful directory i j row other below is is_other =
@@ -101,12 +102,12 @@ lower_generation row other name kind less =
 -- what stands between two rows of one name and type has that name and type
 pub between : (row middle other : FileRow) → by_rest row middle ≡ Less → by_rest middle other ≡ Less
     → other.name ≡ row.name → other.kind ≡ row.kind → (row.name ≡ middle.name) × (row.kind ≡ middle.kind)
-between row middle other less behind name kind =
+between row middle other less after name kind =
     let names : by_bytes middle.name other.name ≡ ordering_reverse (by_bytes row.name middle.name) =
     ap (by_bytes middle.name) name ∙ nat_list_cmp_total.antisymm middle.name row.name in
     let kinds : by_bytes middle.kind other.kind ≡ ordering_reverse (by_bytes row.kind middle.kind) =
     ap (by_bytes middle.kind) kind ∙ nat_list_cmp_total.antisymm middle.kind row.kind in
-    let first = subst (λ (o : Ordering). ordering_then o (ordering_then (by_bytes middle.kind other.kind) (nat_cmp middle.generation other.generation)) ≡ Less) names behind in
+    let first = subst (λ (o : Ordering). ordering_then o (ordering_then (by_bytes middle.kind other.kind) (nat_cmp middle.generation other.generation)) ≡ Less) names after in
     let second = subst (λ (o : Ordering). ordering_then (ordering_reverse (by_bytes row.name middle.name)) (ordering_then o (nat_cmp middle.generation other.generation)) ≡ Less) kinds first in
     let both = then_squeeze _ _ _ _ less second in
     (exact_bytes row.name middle.name both.0, exact_bytes row.kind middle.kind both.1)

@@ -22,7 +22,7 @@ use Rattle.cm_fields.specs.declared.value.Spec.{Spec}
 use Rattle.cm_fields.specs.Try.{span}
 use Rattle.cm_files.specs.declared.parts.Parts.{Parts}
 use Rattle.cm_files.specs.declared.parts.Read.{Read}
-use Rattle.cm_files.specs.Spec.{are_parts, device_read, directory_read, generation_of, is_long, is_path, is_pattern, name_read, nothing_read, part, part_read, parts_behind, parts_of, pointed_read, read_spec, stands_at}
+use Rattle.cm_files.specs.Spec.{are_parts, device_read, directory_read, generation_of, is_long, is_path, is_pattern, name_read, nothing_read, part, part_read, parts_after, parts_of, pointed_read, read_spec, stands_at}
 use Rattle.cm_files.proofs.Fronts.{stands_within}
 
 -- a mark that does not stand in a text
@@ -48,7 +48,7 @@ stands_inside : (text more : List ℕ) (place mark : ℕ) → place < length tex
 stands_inside text more place mark within =
     ap (λ found. option_map_or (λ other. other == mark) found false) (slice_get-append_left text more place within)
 
--- what stands at a place, and behind it
+-- what stands at a place, and after it
 pub stands_first : (text : List ℕ) (place first : ℕ) (rest : List ℕ) (mark : ℕ) → drop place text ≡ first ∷ rest
     → stands_at text place mark ≡ (first == mark)
 stands_first [] zero first rest mark is = cc
@@ -62,7 +62,7 @@ stands_end [] place mark is = refl
 stands_end (byte ∷ text) zero mark is = cc
 stands_end (byte ∷ text) (suc place) mark is = stands_end text place mark is
 
--- what is said of the device, by how many name bytes there are and whether a colon stands behind them
+-- what is said of the device, by how many name bytes there are and whether a colon stands after them
 abbrev device_by : ℕ → Bool → Read
 device_by size stands = if nat_lt 0 size && stands then part_read 0 size (size + 1) else nothing_read 0
 
@@ -179,8 +179,8 @@ pub pointed_at : (whole : List ℕ) (at : ℕ) (text rest : List ℕ) → drop a
     → prefix_len is_pattern rest ≡ 0 → pointed_read whole at ≡ part_read (at + 1) (length text) (at + 1 + length text)
 pointed_at whole at text rest is all none =
     let stands : stands_at whole at 46 ≡ true = stands_first whole at 46 (text ++ rest) 46 is in
-    let behind = drop_next whole at 46 (text ++ rest) is in
-    let size : prefix_len is_pattern (drop (at + 1) whole) ≡ length text = ap (prefix_len is_pattern) behind ∙ prefix_len_stops is_pattern text rest all none in
+    let after = drop_next whole at 46 (text ++ rest) is in
+    let size : prefix_len is_pattern (drop (at + 1) whole) ≡ length text = ap (prefix_len is_pattern) after ∙ prefix_len_stops is_pattern text rest all none in
     rw (stands, size) refl
 
 pub pointed_nowhere : (whole : List ℕ) (at : ℕ) → drop at whole ≡ [] → pointed_read whole at ≡ nothing_read at
@@ -200,7 +200,7 @@ stops_at_point : (rest : List ℕ) → prefix_len is_pattern (46 ∷ rest) ≡ 0
 unfolding is_name is_word
 stops_at_point rest = refl
 
--- a name, a type and a generation that may stand behind a directory
+-- a name, a type and a generation that may stand after a directory
 pub record Full (name kind number : List ℕ) : Type 0 where
   pub some : 0 < length name
   pub name_short : length name ≤ NAME_LIMIT
@@ -235,7 +235,7 @@ full_spec device directory name kind generation =
 pattern_byte : (byte : ℕ) → is_name byte ≡ true → is_pattern byte ≡ true
 pattern_byte byte is = rw is refl
 
--- how it is read behind a directory
+-- how it is read after a directory
 pub parts_full : (whole : List ℕ) (device directory : Read) (name kind number : List ℕ) → device_read whole ≡ device
     → directory_read whole device.next ≡ Some directory → directory.next ≤ length whole
     → drop directory.next whole ≡ full name kind number → Full name kind number
@@ -290,9 +290,9 @@ read_full whole device directory name kind number generation device_is directory
     none [] = refl
     none (byte ∷ text) = ap (λ (text : List ℕ). byte ∷ text) (none text)
 
--- behind a directory with which the text ends nothing is read
-abbrev behind_by : Option Span → Option Span → Read → Read → Read → ℕ → Option Parts
-behind_by device directory name kind generation size =
+-- after a directory with which the text ends nothing is read
+abbrev after_by : Option Span → Option Span → Read → Read → Read → ℕ → Option Parts
+after_by device directory name kind generation size =
     if generation.next == size
     then Some (record { device = device; directory = directory; name = name.part; kind = kind.part; generation = generation.part })
     else None
@@ -300,11 +300,11 @@ behind_by device directory name kind generation size =
 abbrev no_file : Option Span → Option Span → Parts
 no_file device directory = record { device = device; directory = directory; name = None; kind = None; generation = None }
 
-nothing_behind : (whole : List ℕ) (device directory : Option Span) (next : ℕ) → pointed_read whole next ≡ nothing_read next
-    → (next == length whole) ≡ true → parts_behind whole device directory (nothing_read next) ≡ Some (no_file device directory)
-nothing_behind whole device directory next pointed ends =
-    ap (λ (kind : Read). behind_by device directory (nothing_read next) kind (pointed_read whole kind.next) (length whole)) pointed
-    ∙ ap (λ (generation : Read). behind_by device directory (nothing_read next) (nothing_read next) generation (length whole)) pointed
+nothing_after : (whole : List ℕ) (device directory : Option Span) (next : ℕ) → pointed_read whole next ≡ nothing_read next
+    → (next == length whole) ≡ true → parts_after whole device directory (nothing_read next) ≡ Some (no_file device directory)
+nothing_after whole device directory next pointed ends =
+    ap (λ (kind : Read). after_by device directory (nothing_read next) kind (pointed_read whole kind.next) (length whole)) pointed
+    ∙ ap (λ (generation : Read). after_by device directory (nothing_read next) (nothing_read next) generation (length whole)) pointed
     ∙ ap (λ (test : Bool). if test then Some (no_file device directory) else None) ends
 
 -- how a directory reads that is closed
@@ -336,7 +336,7 @@ closed_reads whole device body device_is text all parts device_fits body_fits =
     let some : (length whole == 0) ≡ false = grind (arith, nat_tests) in
     let ends : (next == length whole) ≡ true = grind (arith, nat_tests) in
     let fits : is_long (Some (span (at + 1) (length body))) ≡ false = grind (arith, nat_tests) in
-    let behind = nothing_behind whole device.part (Some (span (at + 1) (length body))) next pointed_is ends in
+    let after = nothing_after whole device.part (Some (span (at + 1) (length body))) next pointed_is ends in
     let parts_are : parts_of whole ≡ Some (no_file device.part (Some (span (at + 1) (length body)))) =
-    rw (some, device_is, directory_is, name_is) behind in
+    rw (some, device_is, directory_is, name_is) after in
     rw (parts_are, device_fits, fits) refl

@@ -1,4 +1,4 @@
--- Patterns, part by part between their stars.
+-- [wildcard] Patterns, part by part between their stars.
 -- The definition is structural in the pattern, and the code goes part by part between stars. The greedy step is
 -- later_end, for any test; spend (cm_lists) bounds the work.
 use Rattle.std.proofs.Common.{◌≡◌, ℕ, zero, suc, ◌+◌, ◌-◌, ◌<◌, ◌≤◌, Bool, true, false, not, ◌==◌, ◌&&◌, ◌||◌, cond, subst, ◌⊎◌, inl, inr, List, [], ◌∷◌, ◌++◌, Option, Some, None, length, take, drop, refl, ap, arith, ◌∙◌, sym}
@@ -31,7 +31,7 @@ plain_mark mark plain = by (mark == 42) plain
     by true is = cc
     by false is = refl
 
--- a part before a star stands for the first bytes, and what is behind the star for some end of the rest
+-- a part before a star stands for the first bytes, and what is after the star for some end of the rest
 first_part : (part more name : List ℕ) → list_all is_plain part ≡ true
     → matches (part ++ 42 ∷ more) name ≡ (fits part name && some_end (matches more) (drop (length part) name))
 first_part [] more name plain = refl
@@ -61,7 +61,7 @@ whole_part (mark ∷ part) (byte ∷ name) plain =
     ∙ ap (λ b. b && (length part == length name)) (sym (fits_more mark byte part name))
     ∙ ap (λ b. fits (mark ∷ part) (byte ∷ name) && b) (eq-suc (length part) (length name)))
 
--- an end of what stands behind more bytes is an end of what stands behind fewer
+-- an end of what stands after more bytes is an end of what stands after fewer
 end_of_more : (test : List ℕ → Bool) (size byte : ℕ) (name : List ℕ)
     → some_end test (drop size name) ≡ true → some_end test (drop size (byte ∷ name)) ≡ true
 end_of_more test zero byte name is = or_right (test (byte ∷ name)) _ is
@@ -89,7 +89,7 @@ same_ends f g [] same = same []
 same_ends f g (byte ∷ name) same =
     ap (λ b. b || some_end f name) (same (byte ∷ name)) ∙ ap (λ b. g (byte ∷ name) || b) (same_ends f g name same)
 
--- a part, and behind it some end of the rest
+-- a part, and after it some end of the rest
 abbrev fit_and : List ℕ → List ℕ → List ℕ → Bool
 fit_and part more rest = fits part rest && some_end (matches more) (drop (length part) rest)
 
@@ -98,7 +98,7 @@ pub record IsPlace (part more : List ℕ) (at place : ℕ) (name : List ℕ) : T
   pub place_is : place ≡ at + later
   pub same : some_end (fit_and part more) name ≡ some_end (matches more) (drop (later + length part) name)
 
--- the first place serves: what is left behind it has the ends of what is left behind any later one
+-- the first place serves: what is left after it has the ends of what is left after any later one
 first_place : (part more : List ℕ) (at place : ℕ) (name : List ℕ) → place_from part at name ≡ Some place
     → IsPlace part more at place name
 first_place part more at place [] found = by (fits part []) refl found
@@ -124,12 +124,12 @@ first_place part more at place (byte ∷ name) found = by (fits part (byte ∷ n
           ∙ ap (λ n. some_end (matches more) (drop n (byte ∷ name))) (zero_add (length part)));
     }
     by false fit found rest =
-        let behind = rest found in
+        let after = rest found in
         record {
-          later = suc behind.later;
-          place_is = (let is = behind.place_is in omega arith);
-          same = rw fit (behind.same
-              ∙ ap (λ n. some_end (matches more) (drop n (byte ∷ name))) (suc_add behind.later (length part)));
+          later = suc after.later;
+          place_is = (let is = after.place_is in omega arith);
+          same = rw fit (after.same
+              ∙ ap (λ n. some_end (matches more) (drop n (byte ∷ name))) (suc_add after.later (length part)));
         }
 
 no_place : (part more : List ℕ) (at : ℕ) (name : List ℕ) → place_from part at name ≡ None → some_end (fit_and part more) name ≡ false
@@ -182,7 +182,7 @@ last_part part (byte ∷ name) plain =
     by (inr (inr long)) =
         rw (ne_eqb (length part) (suc (length name)) (λ equal. absurd (omega arith)), ends_longer part name (omega arith), ends_longer part (byte ∷ name) long, and-false (fits part (byte ∷ name))) refl
 
--- the part of a pattern before its first star, and what is behind the star
+-- the part of a pattern before its first star, and what is after the star
 plain_part : (pattern : List ℕ) → list_all is_plain (take (prefix_len is_plain pattern) pattern) ≡ true
 plain_part [] = refl
 plain_part (mark ∷ pattern) = by (is_plain mark) refl (plain_part pattern)
@@ -200,10 +200,10 @@ cut_more : (mark : ℕ) (pattern : List ℕ) (size first second : ℕ) → first
 cut_more mark pattern size first second first_is second_is cut =
     rw (first_is, second_is) (ap (λ more. mark ∷ more) cut)
 
-star_behind : (pattern : List ℕ) → prefix_len is_plain pattern < length pattern
+star_after : (pattern : List ℕ) → prefix_len is_plain pattern < length pattern
     → take (prefix_len is_plain pattern) pattern ++ 42 ∷ drop (prefix_len is_plain pattern + 1) pattern ≡ pattern
-star_behind [] within = absurd (omega arith)
-star_behind (mark ∷ pattern) within = by (mark == 42) refl within (star_behind pattern)
+star_after [] within = absurd (omega arith)
+star_after (mark ∷ pattern) within = by (mark == 42) refl within (star_after pattern)
   where
     by : (star : Bool) → (mark == 42) ≡ star → cond (not star) (1 + prefix_len is_plain pattern) 0 < suc (length pattern)
         → (prefix_len is_plain pattern < length pattern
@@ -222,10 +222,10 @@ first_by pattern name within =
     let size = prefix_len is_plain pattern in
     let part = take size pattern in
     let more = drop (size + 1) pattern in
-    ap (λ all. matches all name) (sym (star_behind pattern within)) ∙ first_part part more name (plain_part pattern)
+    ap (λ all. matches all name) (sym (star_after pattern within)) ∙ first_part part more name (plain_part pattern)
     ∙ ap (λ n. fits part name && some_end (matches more) (drop n name)) (length-prefix_len is_plain pattern)
 
--- a pattern with a star: its first part, and what is behind the star
+-- a pattern with a star: its first part, and what is after the star
 pub matched_first : (pattern name : List ℕ) (size : ℕ) → size ≡ prefix_len is_plain pattern → size < length pattern
     → matches pattern name
     ≡ (fits (take size pattern) name && some_end (matches (drop (size + 1) pattern)) (drop size name))
@@ -277,7 +277,7 @@ pub means_last : (pattern name : List ℕ) (size : ℕ) (all : Bool) → some_en
     → size ≡ prefix_len is_plain pattern → length pattern ≤ size → ends_like pattern name ≡ all
 means_last pattern name size all walk is past = sym (last_part pattern name (all_plain pattern size is past)) ∙ walk
 
--- the first part of a pattern: it stands for no beginning, or the name goes on behind it, or it is the whole
+-- the first part of a pattern: it stands for no beginning, or the name goes on after it, or it is the whole
 pub means_unlike : (pattern name : List ℕ) (size : ℕ) → size ≡ prefix_len is_plain pattern
     → fits (take size pattern) name ≡ false → false ≡ matches pattern name
 means_unlike pattern name size is fit = by (cases_lt size (length pattern))
@@ -291,10 +291,10 @@ means_unlike pattern name size is fit = by (cases_lt size (length pattern))
         ∙ ap (λ part. fits part name && (length pattern == length name)) (sym (take_all size pattern past))
         ∙ ap (λ b. b && (length pattern == length name)) fit)
 
-pub means_behind : (pattern name : List ℕ) (size : ℕ) → size ≡ prefix_len is_plain pattern
+pub means_after : (pattern name : List ℕ) (size : ℕ) → size ≡ prefix_len is_plain pattern
     → fits (take size pattern) name ≡ true → size < length pattern
     → some_end (matches (drop (size + 1) pattern)) (drop size name) ≡ matches pattern name
-means_behind pattern name size is fit within =
+means_after pattern name size is fit within =
     sym (matched_first pattern name size is within
     ∙ ap (λ b. b && some_end (matches (drop (size + 1) pattern)) (drop size name)) fit)
 
@@ -343,4 +343,4 @@ pub ruleset part_walk = (part_here, part_next, part_past)
 
 pub ruleset star_walk = (means_next, means_nowhere, means_last)
 
-pub ruleset first_parts = (means_unlike, means_behind, means_whole)
+pub ruleset first_parts = (means_unlike, means_after, means_whole)

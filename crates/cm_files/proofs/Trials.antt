@@ -21,7 +21,7 @@ use Rattle.cm_fields.proofs.Runs.{run_decided, run_is_local, run_reaches, run_se
 use Rattle.cm_fields.specs.declared.value.FileKind.{FileKind}
 use Rattle.cm_files.specs.declared.flags.Flags.{Flags}
 use Rattle.cm_files.specs.Catalogue.{Catalogue}
-use Rattle.cm_files.specs.Fields.{directory, directory_of, file, file_of, has_colon_behind, is_file, is_plain_path, user, user_of}
+use Rattle.cm_files.specs.Fields.{directory, directory_of, file, file_of, has_colon_after, is_file, is_plain_path, user, user_of}
 
 pub file_is_local : (c : Catalogue) (kind : FileKind) (flags : Flags) → IsLocal (file c kind flags)
 file_is_local c kind flags = run_is_local is_file (file_of c kind flags)
@@ -29,9 +29,9 @@ file_is_local c kind flags = run_is_local is_file (file_of c kind flags)
 pub directory_is_local : (new : Bool) (c : Catalogue) → IsLocal (directory new c)
 directory_is_local new c = run_is_local is_file (directory_of new c)
 
--- a run that ends in the front has the same byte behind it whatever follows
+-- a run that ends in the front has the same byte after it whatever follows
 colon_inside : (front more : List ℕ) → prefix_len is_plain_path front < length front
-    → has_colon_behind (front ++ more) ≡ has_colon_behind front
+    → has_colon_after (front ++ more) ≡ has_colon_after front
 colon_inside front more ends =
     ap (λ found. option_map_or (λ other. other == 58) found false)
     (ap (λ size. slice_get (front ++ more) size) (prefix_len_inside is_plain_path front more ends)
@@ -46,14 +46,14 @@ user_decided c front more other at =
     (cond_both (prefix_len is_plain_path (front ++ more) == length (front ++ more)) _ _ (LooksBeyond (length front)) (λ _. tt) (λ _. said_beyond _ at _ _ _ (let beyond = prefix_len_beyond is_plain_path front more (grind (arith, nat_tests)) in omega arith))))
     (λ ends.
     let inside : size < length front = (let most = prefix_len-le-length is_plain_path front in grind (arith, nat_tests)) in
-    let same : has_colon_behind (front ++ more) ≡ has_colon_behind (front ++ other) =
+    let same : has_colon_after (front ++ more) ≡ has_colon_after (front ++ other) =
     colon_inside front more inside ∙ sym (colon_inside front other inside) in
     subst (λ (colon : Bool). Holds (length front) (user c (front ++ more) at) (by_run is_plain_path (user_of c colon) (front ++ other) at)) same
-    (run_decided is_plain_path (user_of c (has_colon_behind (front ++ more))) front more other at))
+    (run_decided is_plain_path (user_of c (has_colon_after (front ++ more))) front more other at))
 
 pub user_is_local : (c : Catalogue) → IsLocal (user c)
 user_is_local c =
-    is_local (user c) (user_decided c) (λ rest at. run_seen is_plain_path (user_of c (has_colon_behind rest)) rest at)
+    is_local (user c) (user_decided c) (λ rest at. run_seen is_plain_path (user_of c (has_colon_after rest)) rest at)
 
 pub file_decides : (c : Catalogue) (kind : FileKind) (flags : Flags) → DecidesFinished (file c kind flags)
 unfolding is_name is_word
@@ -66,7 +66,7 @@ directory_decides new c = run_decides is_file (directory_of new c) refl
 pub user_decides : (c : Catalogue) → DecidesFinished (user c)
 unfolding is_name is_word
 user_decides c line at =
-    run_decides is_plain_path (λ _. user_of c (has_colon_behind (line ++ 13 ∷ []))) refl line at
+    run_decides is_plain_path (λ _. user_of c (has_colon_after (line ++ 13 ∷ []))) refl line at
 
 pub file_reaches : (c : Catalogue) (kind : FileKind) (flags : Flags) (rest : List ℕ) (at : ℕ) (value : Value) (looked end : ℕ)
     → file c kind flags rest at ≡ Accept value looked end → Reaches at (length rest) looked end
@@ -78,4 +78,4 @@ directory_reaches new c rest at = run_reaches is_file (directory_of new c at) re
 
 pub user_reaches : (c : Catalogue) (rest : List ℕ) (at : ℕ) (value : Value) (looked end : ℕ)
     → user c rest at ≡ Accept value looked end → Reaches at (length rest) looked end
-user_reaches c rest at = run_reaches is_plain_path (user_of c (has_colon_behind rest)) rest at
+user_reaches c rest at = run_reaches is_plain_path (user_of c (has_colon_after rest)) rest at

@@ -12,7 +12,7 @@ use Rattle.cm_fields.specs.Try.{span}
 use Rattle.cm_files.specs.declared.parts.Parts.{Parts}
 use Rattle.cm_files.specs.declared.parts.Read.{Read}
 use Rattle.cm_files.specs.declared.spec.SpecFault.TheVariants.{NameLong}
-use Rattle.cm_files.specs.Spec.{by_parts, device_read, directory_read, generation_of, is_long, is_pattern, name_read, nothing_read, part, part_or_nothing, part_read, parts_behind, parts_of, pointed_read, read_spec, stands_at, with_generation}
+use Rattle.cm_files.specs.Spec.{by_parts, device_read, directory_read, generation_of, is_long, is_pattern, name_read, nothing_read, part, part_or_nothing, part_read, parts_after, parts_of, pointed_read, read_spec, stands_at, with_generation}
 use Rattle.cm_files.proofs.Fronts.{stands_within}
 
 -- how a specification was read
@@ -29,7 +29,7 @@ pub record ReadAs (atom : List ℕ) (spec : Spec) : Type 0 where
   pub spec_name : spec.name ≡ name.part
   pub spec_kind : spec.kind ≡ (pointed_read atom name.next).part
 
--- the parts come from what stands behind device, directory and name
+-- the parts come from what stands after device, directory and name
 record PartsAs (atom : List ℕ) (parts : Parts) : Type 0 where
   directory : Read
   name : Read
@@ -44,7 +44,7 @@ record PartsAs (atom : List ℕ) (parts : Parts) : Type 0 where
 parts_as : (atom : List ℕ) (parts : Parts) → parts_of atom ≡ Some parts → PartsAs atom parts
 parts_as atom parts is = by_empty (length atom == 0) is
   where
-    behind : (directory name : Read) → directory_read atom (device_read atom).next ≡ Some directory → name_read atom directory.next ≡ Some name
+    after : (directory name : Read) → directory_read atom (device_read atom).next ≡ Some directory → name_read atom directory.next ≡ Some name
         → (ends : Bool) → ((pointed_read atom (pointed_read atom name.next).next).next == length atom) ≡ ends
         → (if ends then Some (record {
           device = (device_read atom).part;
@@ -53,7 +53,7 @@ parts_as atom parts is = by_empty (length atom == 0) is
           kind = (pointed_read atom name.next).part;
           generation = (pointed_read atom (pointed_read atom name.next).next).part;
         }) else None) ≡ Some parts → PartsAs atom parts
-    behind directory name directory_is name_is true ends is =
+    after directory name directory_is name_is true ends is =
         let same : ◌≡◌ {A = Parts} (record {
           device = (device_read atom).part;
           directory = directory.part;
@@ -72,22 +72,22 @@ parts_as atom parts is = by_empty (length atom == 0) is
           name_part = sym (ap (λ (parts : Parts). parts.name) same);
           kind_part = sym (ap (λ (parts : Parts). parts.kind) same);
         }
-    behind directory name directory_is name_is false ends is = cc
+    after directory name directory_is name_is false ends is = cc
 
     by_name : (directory : Read) → directory_read atom (device_read atom).next ≡ Some directory → (name : Option Read)
         → name_read atom directory.next ≡ name
-        → option_and_then (parts_behind atom (device_read atom).part directory.part) name ≡ Some parts → PartsAs atom parts
+        → option_and_then (parts_after atom (device_read atom).part directory.part) name ≡ Some parts → PartsAs atom parts
     by_name directory directory_is None name_is is = cc
     by_name directory directory_is (Some name) name_is is =
-        behind directory name directory_is name_is ((pointed_read atom (pointed_read atom name.next).next).next == length atom) refl is
+        after directory name directory_is name_is ((pointed_read atom (pointed_read atom name.next).next).next == length atom) refl is
 
     by_directory : (directory : Option Read) → directory_read atom (device_read atom).next ≡ directory
-        → option_and_then (λ (directory : Read). option_and_then (parts_behind atom (device_read atom).part directory.part) (name_read atom directory.next)) directory ≡ Some parts
+        → option_and_then (λ (directory : Read). option_and_then (parts_after atom (device_read atom).part directory.part) (name_read atom directory.next)) directory ≡ Some parts
         → PartsAs atom parts
     by_directory None directory_is is = cc
     by_directory (Some directory) directory_is is = by_name directory directory_is (name_read atom directory.next) refl is
 
-    by_empty : (empty : Bool) → (if empty then None else option_and_then (λ (directory : Read). option_and_then (parts_behind atom (device_read atom).part directory.part) (name_read atom directory.next)) (directory_read atom (device_read atom).next)) ≡ Some parts
+    by_empty : (empty : Bool) → (if empty then None else option_and_then (λ (directory : Read). option_and_then (parts_after atom (device_read atom).part directory.part) (name_read atom directory.next)) (directory_read atom (device_read atom).next)) ≡ Some parts
         → PartsAs atom parts
     by_empty true is = cc
     by_empty false is = by_directory (directory_read atom (device_read atom).next) refl is
@@ -157,7 +157,7 @@ read_of atom spec is = by (parts_of atom) refl is
           spec_kind = of.kind ∙ read.kind_part;
         }
 
--- a part of the text, and what is behind it
+-- a part of the text, and what is after it
 part_then : (atom : List ℕ) (start size : ℕ) → drop start atom ≡ part atom (span start size) ++ drop (start + size) atom
 part_then atom start size =
     let same : start + size - start ≡ size = omega arith in
@@ -165,7 +165,7 @@ part_then atom start size =
     ∙ ap (λ (rest : List ℕ). take size (drop start atom) ++ rest) (sym (drop-drop size start atom))
     ∙ take-append-drop size (drop start atom))
 
--- a type or a generation is read behind a point, or nothing is
+-- a type or a generation is read after a point, or nothing is
 pub record Pointed (atom : List ℕ) (at : ℕ) (place : Span) : Type 0 where
   pub cut : drop at atom ≡ 46 ∷ (part atom place ++ drop place.end atom)
   pub next : (pointed_read atom at).next ≡ place.end
@@ -242,7 +242,7 @@ name_of atom at name is =
         subst (NameOf atom at) same whole
     by false some false at_end is = cc
 
--- what is typed behind the directory, by the type that is read
+-- what is typed after the directory, by the type that is read
 pub cut_name : (atom : List ℕ) (spec : Spec) (r : ReadAs atom spec) → spec.kind ≡ None
     → drop r.directory.next atom ≡ part_or_nothing atom spec.name
 cut_name atom spec r none =
@@ -267,7 +267,7 @@ cut_kind atom spec r place some =
     named.cut ∙ ap (λ (rest : List ℕ). part_or_nothing atom r.name.part ++ rest) pointed.cut
     ∙ ap (λ (name : Option Span). part_or_nothing atom name ++ 46 ∷ (part atom place ++ drop place.end atom)) (sym r.spec_name)
 
--- behind the type a point stands where one byte is left
+-- after the type a point stands where one byte is left
 pub cut_point : (atom : List ℕ) (spec : Spec) (r : ReadAs atom spec) (place : Span) → spec.kind ≡ Some place
     → place.end + 1 ≡ length atom → drop place.end atom ≡ 46 ∷ []
 cut_point atom spec r place some end = by (stands_at atom place.end 46) refl

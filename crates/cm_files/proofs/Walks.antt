@@ -3,7 +3,7 @@ use Rattle.std.proofs.Common.{◌≡◌, ℕ, zero, suc, ◌+◌, ◌<◌, Bool,
 use Rattle.std.specs.List.{list_any, position_from}
 use Rattle.cm_lists.proofs.Positions.{position_from_past}
 use Rattle.cm_lists.proofs.Quantifiers.{any_past}
-use Rattle.cm_files.specs.Passing.{passes_at}
+use Rattle.cm_files.specs.RowTrials.{passes_at}
 
 place_here : {X : Type 0} (test : X → Bool) (at i : ℕ) (xs : List X) → passes_at test xs i ≡ true
     → position_from test at (drop i xs) ≡ Some at

@@ -4,8 +4,9 @@ use Rattle.std.specs.Char.{is_ascii_lowercase}
 use Rattle.std.specs.Cmp.Lexicographic.{slice_cmp}
 use Rattle.std.specs.List.{list_all, slice_split}
 use Rattle.std.specs.Option.{option_map}
-use Rattle.std.specs.Ordering.{is_lt, nat_cmp, on, then_cmp}
+use Rattle.std.specs.Ordering.{nat_cmp, on, then_cmp}
 use Rattle.std.specs.declared.cmp.Ordering.{Ordering}
+use Rattle.cm_lists.specs.Ascent.{ascends}
 use Rattle.cm_text.specs.declared.name.TheConstants.{NAME_LIMIT}
 use Rattle.cm_text.specs.Bytes.{is_name}
 use Rattle.cm_text.specs.Case.{equals}
@@ -40,12 +41,6 @@ row_of directory row =
       generation = row.generation;
       deleted = row.deleted;
     }
-
--- each stands below the next
-abbrev pub ascends : {X : Type 0} → (X → X → Ordering) → List X → Bool
-ascends compare [] = true
-ascends compare (x ∷ []) = true
-ascends compare (x ∷ y ∷ more) = is_lt (compare x y) && ascends compare (y ∷ more)
 
 -- names by their bytes, a beginning before what is longer
 abbrev pub by_bytes : List ℕ → List ℕ → Ordering

@@ -111,14 +111,14 @@ abbrev pub user_or_refused : Option ℕ → Result Value Code
 user_or_refused None = Err NoUser
 user_or_refused (Some directory) = Ok (values.User directory)
 
--- what a run says as a user, whether a colon stands behind it: a device is none
+-- what a run says as a user, whether a colon stands after it: a device is none
 unfoldable pub user_of : Catalogue → Bool → List ℕ → Result Value Code
 user_of c has_colon run = refuse has_colon NoUser (user_or_refused (user_named c run))
 
--- a colon stands behind such a name
-abbrev pub has_colon_behind : List ℕ → Bool
-has_colon_behind rest = stands_at rest (prefix_len is_plain_path rest) 58
+-- a colon stands after such a name
+abbrev pub has_colon_after : List ℕ → Bool
+has_colon_after rest = stands_at rest (prefix_len is_plain_path rest) 58
 
--- a user; the byte behind the name decides
+-- a user; the byte after the name decides
 abbrev pub user : Catalogue → List ℕ → ℕ → Try
-user c rest at = by_run is_plain_path (user_of c (has_colon_behind rest)) rest at
+user c rest at = by_run is_plain_path (user_of c (has_colon_after rest)) rest at

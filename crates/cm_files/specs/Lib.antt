@@ -3,9 +3,9 @@ pub mod Fields
 pub mod LogicalName
 pub mod Neighbours
 pub mod OneDirectory
-pub mod Passing
 pub mod Pattern
 pub mod Place
 pub mod Resolve
+pub mod RowTrials
 pub mod Selection
 pub mod Spec

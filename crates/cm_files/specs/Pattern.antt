@@ -21,7 +21,7 @@ abbrev pub one_and : (List ℕ → Bool) → ℕ → List ℕ → Bool
 one_and test mark [] = false
 one_and test mark (byte ∷ more) = stands_for mark byte && test more
 
--- the pattern means the whole name
+-- [wildcard] the pattern means the whole name
 abbrev pub matches : List ℕ → List ℕ → Bool
 matches [] name = is_nothing name
 matches (mark ∷ more) name = if mark == 42 then some_end (matches more) name else one_and (matches more) mark name

@@ -125,7 +125,7 @@ is_in In = true
 is_in Out = false
 is_in Any = false
 
--- the directory that a file's specification means, or the first refusal
+-- [file-field] the directory that a file's specification means, or the first refusal
 unfoldable pub resolve : Catalogue → FileKind → Flags → List ℕ → Spec → Result ℕ Code
 resolve c kind flags atom spec =
     refuse (lacks_name flags spec) SpecShape

@@ -35,7 +35,7 @@ stands_at atom place byte = option_map_or (λ other. other == byte) (slice_get a
 abbrev pub are_parts : List ℕ → Bool
 are_parts path = list_all (λ part. nat_lt 0 (length part)) (slice_split (λ byte. byte == 46) path)
 
--- a part from a place on, of this size, before or behind marks of which nothing is said; and no part
+-- a part from a place on, of this size, before or after marks of which nothing is said; and no part
 abbrev pub part_read : ℕ → ℕ → ℕ → Read
 part_read start size next = record { part = Some (span start size); next = next }
 
@@ -64,16 +64,16 @@ name_read atom at =
     if nat_lt 0 size then Some (part_read at size (at + size))
     else (if at == length atom then Some (nothing_read at) else None)
 
--- a type or a generation, behind a point
+-- a type or a generation, after a point
 abbrev pub pointed_read : List ℕ → ℕ → Read
 pointed_read atom at =
     if stands_at atom at 46
     then (let size = prefix_len is_pattern (drop (at + 1) atom) in part_read (at + 1) size (at + 1 + size))
     else nothing_read at
 
--- behind device, directory and name come a type and a generation, and then the atom ends
-abbrev pub parts_behind : List ℕ → Option Span → Option Span → Read → Option Parts
-parts_behind atom device directory name =
+-- after device, directory and name come a type and a generation, and then the atom ends
+abbrev pub parts_after : List ℕ → Option Span → Option Span → Read → Option Parts
+parts_after atom device directory name =
     let kind = pointed_read atom name.next in
     let generation = pointed_read atom kind.next in
     if generation.next == length atom
@@ -86,17 +86,17 @@ parts_behind atom device directory name =
     })
     else None
 
--- behind the device and the directory comes the name
-abbrev pub name_behind : List ℕ → Option Span → Read → Option Parts
-name_behind atom device directory =
-    option_and_then (parts_behind atom device directory.part) (name_read atom directory.next)
+-- after the device and the directory comes the name
+abbrev pub name_after : List ℕ → Option Span → Read → Option Parts
+name_after atom device directory =
+    option_and_then (parts_after atom device directory.part) (name_read atom directory.next)
 
 -- the parts of an atom, in their order; none where it is no specification
 abbrev pub parts_of : List ℕ → Option Parts
 parts_of atom =
     let device = device_read atom in
     if length atom == 0 then None
-    else option_and_then (name_behind atom device.part) (directory_read atom device.next)
+    else option_and_then (name_after atom device.part) (directory_read atom device.next)
 
 -- the bytes of a part
 abbrev pub part : List ℕ → Span → List ℕ

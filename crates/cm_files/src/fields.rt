@@ -3,7 +3,7 @@ ghost use Rattle.std.specs.Prelude.{◌≡◌, ◌+◌, ◌<◌, ◌≤◌, ◌=
 ghost use Rattle.std.specs.List.{list_all, list_any, prefix_len};
 ghost use Rattle.cm_files.specs.Fields.{directory, directory_of, directory_read, file, file_of, is_file, is_plain_path, is_user_named, moved, moved_spec, new_directory, refusal, user, user_named, user_of};
 ghost use Rattle.cm_fields.specs.declared.value.Value.TheVariants as values;
-ghost use Rattle.cm_files.specs.Passing.{passes_at};
+ghost use Rattle.cm_files.specs.RowTrials.{passes_at};
 ghost use Rattle.cm_files.specs.Spec.{IsPartOf, IsSpecOf};
 
 use crate::parts::{is_path, stands_at};
@@ -128,7 +128,7 @@ fn file_of<N: Names>(
 
 /// A file specification that stands at the beginning of `rest`, which is what a text has from the place `at`
 /// on: the function `file`, for a caller that has split the text.
-pub fn file_behind<N: Names>(kind: FileKind, flags: Flags, names: &N, rest: &[u8], at: u16) -> Try
+pub fn file_after<N: Names>(kind: FileKind, flags: Flags, names: &N, rest: &[u8], at: u16) -> Try
     requires { at + length rest.now ≤ TEXT_LIMIT }
     ensures { result ≡ file (N.catalogue names.now) kind flags rest.now at }
 {
@@ -154,7 +154,7 @@ pub fn file<N: Names>(kind: FileKind, flags: Flags, names: &N, text: &[u8], at: 
     requires place { at ≤ length text.now }
     ensures { result ≡ file (N.catalogue names.now) kind flags (drop at text.now) at }
 {
-    file_behind(kind, flags, names, text.split_at(at).1, at as u16)
+    file_after(kind, flags, names, text.split_at(at).1, at as u16)
 }
 
 // The value of a directory that may be a new one.
@@ -213,7 +213,7 @@ fn directory_of<N: Names>(new: bool, names: &N, at: u16, run: &[u8]) -> Result<V
 
 /// A directory that stands at the beginning of `rest`, which is what a text has from the place `at` on: the
 /// function `directory`, for a caller that has split the text.
-pub fn directory_behind<N: Names>(new: bool, names: &N, rest: &[u8], at: u16) -> Try
+pub fn directory_after<N: Names>(new: bool, names: &N, rest: &[u8], at: u16) -> Try
     requires { at + length rest.now ≤ TEXT_LIMIT }
     ensures { result ≡ directory new (N.catalogue names.now) rest.now at }
 {
@@ -238,7 +238,7 @@ pub fn directory<N: Names>(new: bool, names: &N, text: &[u8], at: usize) -> Try
     requires place { at ≤ length text.now }
     ensures { result ≡ directory new (N.catalogue names.now) (drop at text.now) at }
 {
-    directory_behind(new, names, text.split_at(at).1, at as u16)
+    directory_after(new, names, text.split_at(at).1, at as u16)
 }
 
 // Whether a text has a point.
@@ -284,7 +284,7 @@ fn user_of<N: Names>(names: &N, has_colon: bool, run: &[u8]) -> Result<Value, Co
     }
 }
 
-/// A user (.CMUSR): the name of a directory without a point, with no regard to the case of letters, behind
+/// A user (.CMUSR): the name of a directory without a point, with no regard to the case of letters, after
 /// which no colon stands. Refused with NoUser where there is no such directory.
 pub fn user<N: Names>(names: &N, text: &[u8], at: usize) -> Try
     requires short { length text.now ≤ TEXT_LIMIT }

@@ -23,7 +23,7 @@ fn numbered(digits: &[u8]) -> Option<Gen>
     }
 }
 
-/// Which generations the text behind the second point means; none where it means none.
+/// Which generations the text after the second point means; none where it means none.
 #[tactic(auto, unfolding(crate::specs::Spec::generation_of))]
 pub(crate) fn generation_of(text: &[u8]) -> Option<Gen>
     ensures { result ≡ generation_of text.now }

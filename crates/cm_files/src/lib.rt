@@ -17,7 +17,7 @@ mod row;
 mod selection;
 mod spec;
 
-pub use fields::{directory, directory_behind, file, file_behind, user};
+pub use fields::{directory, directory_after, file, file_after, user};
 pub use flags::Flags;
 pub use generation::GENERATION_LIMIT;
 pub use logical::is_logical_name;

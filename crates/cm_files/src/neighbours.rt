@@ -3,7 +3,7 @@ ghost use Rattle.std.specs.Prelude.{◌≡◌, ◌<◌, true, drop, length, opti
 ghost use Rattle.std.specs.List.{position_from};
 ghost use Rattle.cm_files.specs.Catalogue.{IsCatalogue, row_of, rows_of};
 ghost use Rattle.cm_files.specs.Neighbours.{is_bottom, is_taken, is_top, mark_of_same};
-ghost use Rattle.cm_files.specs.Passing.{passes_at};
+ghost use Rattle.cm_files.specs.RowTrials.{passes_at};
 ghost use Rattle.cm_files.specs.Selection.{is_seen, is_selected, wanted};
 
 use crate::selection::is_seen_at;
@@ -31,8 +31,8 @@ fn mark_at<N: Names>(
     }
 }
 
-// Whether none of the rows seen of the file of this one stands behind it.
-#[tactic(auto, using(crate::proofs::Beside::walk_behind))]
+// Whether none of the rows seen of the file of this one stands after it.
+#[tactic(auto, using(crate::proofs::Beside::walk_after))]
 fn is_top_at<N: Names>(names: &N, directory: u16, i: u32, sought: &Sought<'_>) -> bool
     requires directory { directory < length (N.catalogue names.now).directories }
     requires row { i < length (rows_of (N.catalogue names.now) directory) }
@@ -64,10 +64,10 @@ fn is_bottom_at<N: Names>(names: &N, directory: u16, i: u32, sought: &Sought<'_>
         result ≡ passes_at (is_bottom (wanted sought.now) rows) rows i }
 {
     let row = names.row(directory, i);
-    let mut behind = i;
-    while behind > 0 {
-        behind -= 1;
-        match mark_at(names, directory, behind, &row, sought.deleted) {
+    let mut after = i;
+    while after > 0 {
+        after -= 1;
+        match mark_at(names, directory, after, &row, sought.deleted) {
             None => return true,
             Some(true) => return false,
             Some(false) => {}

@@ -2,7 +2,7 @@
 ghost use Rattle.std.specs.Prelude.{◌≡◌, ◌+◌, ◌≤◌, IfSome, length};
 ghost use Rattle.std.specs.List.{prefix_len};
 ghost use Rattle.cm_text.specs.Bytes.{is_name};
-ghost use Rattle.cm_files.specs.Spec.{HasPartsOf, IsPartOf, IsReadOf, are_parts, device_read, directory_read, is_path, is_pattern, name_read, nothing_read, part_read, parts_behind, parts_of, pointed_read, stands_at};
+ghost use Rattle.cm_files.specs.Spec.{HasPartsOf, IsPartOf, IsReadOf, are_parts, device_read, directory_read, is_path, is_pattern, name_read, nothing_read, part_read, parts_after, parts_of, pointed_read, stands_at};
 
 use cm_fields::{Span, span_of};
 use cm_text::{LINE_LIMIT, is_name};
@@ -17,7 +17,7 @@ pub(crate) struct Parts {
     pub generation: Option<Span>,
 }
 
-// A part that was read, where it is given, and the place behind it and its marks.
+// A part that was read, where it is given, and the place after it and its marks.
 #[derive(Clone, Copy)]
 struct Read {
     part: Option<Span>,
@@ -124,9 +124,9 @@ fn directory_read(atom: &[u8], at: usize) -> Option<Read>
     if !stands_at(atom, at, b'<') {
         return Some(nothing_read(at));
     }
-    let behind = &atom[at + 1..];
-    let size = path_run(behind);
-    if stands_at(atom, at + 1 + size, b'>') && are_parts(&behind[..size]) {
+    let after = &atom[at + 1..];
+    let size = path_run(after);
+    if stands_at(atom, at + 1 + size, b'>') && are_parts(&after[..size]) {
         Some(part_read(at + 1, size, at + size + 2))
     } else {
         None
@@ -150,7 +150,7 @@ fn name_read(atom: &[u8], at: usize) -> Option<Read>
     }
 }
 
-// A type or a generation, behind a point.
+// A type or a generation, after a point.
 fn pointed_read(atom: &[u8], at: usize) -> Read
     requires short { length atom.now ≤ LINE_LIMIT }
     requires place { at ≤ length atom.now }
@@ -164,8 +164,8 @@ fn pointed_read(atom: &[u8], at: usize) -> Read
     part_read(at + 1, size, at + 1 + size)
 }
 
-// What comes behind device, directory and name.
-fn parts_behind(
+// What comes after device, directory and name.
+fn parts_after(
     atom: &[u8],
     device: Option<Span>,
     directory: Option<Span>,
@@ -175,7 +175,7 @@ fn parts_behind(
     requires device { IsPartOf (length atom.now) device }
     requires directory { IsPartOf (length atom.now) directory }
     requires name { IsReadOf (length atom.now) name }
-    ensures value { result ≡ parts_behind atom.now device directory name }
+    ensures value { result ≡ parts_after atom.now device directory name }
     ensures within { IfSome result (λ parts. HasPartsOf (length atom.now) parts) }
 {
     let kind = pointed_read(atom, name.next);
@@ -204,5 +204,5 @@ pub(crate) fn parts_of(atom: &[u8]) -> Option<Parts>
     let device = device_read(atom);
     let directory = directory_read(atom, device.next)?;
     let name = name_read(atom, directory.next)?;
-    parts_behind(atom, device.part, directory.part, name)
+    parts_after(atom, device.part, directory.part, name)
 }

@@ -63,7 +63,7 @@ fn ends_like(part: &[u8], name: &[u8], looked: &mut u64) -> bool
     part.len() <= name.len() && fits(part, name.split_at(name.len() - part.len()).1, looked)
 }
 
-// Whether a pattern means some end of a name: each part between two `*` at its first place behind the part
+// Whether a pattern means some end of a name: each part between two `*` at its first place after the part
 // before, and the last part at the end of the name.
 #[tactic(auto, using(crate::proofs::Stars::star_walk, cm_lists::proofs::Products::spent_walk))]
 fn means_an_end(pattern: &[u8], name: &[u8], looked: &mut u64) -> bool
@@ -106,6 +106,7 @@ pub(crate) fn means(pattern: &[u8], name: &[u8], looked: &mut u64) -> bool
 /// Whether a pattern means a name: `*` stands for any run of bytes, `%` for one byte, and any other byte for
 /// itself, with no regard to the case of letters (GTJFN). A `*` of the name is a plain byte.
 pub fn matches(pattern: &[u8], name: &[u8]) -> bool
+    // [wildcard]
     ensures { result ≡ matches pattern.now name.now }
 {
     let mut looked = 0;

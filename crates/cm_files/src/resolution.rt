@@ -5,7 +5,7 @@ ghost use Rattle.cm_files.specs.Catalogue.{rows_of};
 ghost use Rattle.cm_files.specs.Pattern.{is_wild};
 ghost use Rattle.cm_files.specs.Resolve.{by_device, by_directory, directory_named, has_bad_copy, has_bad_wild, has_wild, has_wild_and_more, is_all, is_bad_generation, is_in, is_named, lacks_name, resolve, wanted_by, wanted_kind, wanted_name};
 ghost use Rattle.cm_files.specs.Selection.{selects, wanted};
-ghost use Rattle.cm_files.specs.Passing.{passes_at};
+ghost use Rattle.cm_files.specs.RowTrials.{passes_at};
 ghost use Rattle.cm_files.specs.Spec.{IsPartOf, IsSpecOf};
 
 use crate::{Flags, Names, Sought, part, selects};
@@ -234,6 +234,7 @@ pub fn resolve<N: Names>(
     spec: Spec,
 ) -> Result<u16, Code>
     requires { IsSpecOf (length atom.now) spec }
+    // [file-field]
     ensures { result ≡ resolve (N.catalogue names.now) kind flags atom.now spec }
 {
     if lacks_name(flags, spec) {

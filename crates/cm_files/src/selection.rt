@@ -1,7 +1,7 @@
 // Which files of a directory are selected.
 ghost use Rattle.std.specs.Prelude.{◌≡◌, ◌<◌, length, option_copied};
 ghost use Rattle.cm_files.specs.Catalogue.{rows_of};
-ghost use Rattle.cm_files.specs.Passing.{may_pass, may_take, passes_at};
+ghost use Rattle.cm_files.specs.RowTrials.{may_pass, may_take, passes_at};
 ghost use Rattle.cm_files.specs.Selection.{is_seen, name_matches, selects, wanted};
 
 use crate::{Names, matches};
@@ -57,7 +57,7 @@ pub(crate) fn is_seen_at<N: Names>(names: &N, directory: u16, i: u32, sought: &S
 }
 
 // Whether the row with this number may be selected.
-#[tactic(auto, unfolding(crate::specs::Passing::may_pass))]
+#[tactic(auto, unfolding(crate::specs::RowTrials::may_pass))]
 fn may_pass_at<N: Names>(names: &N, directory: u16, i: u32, sought: &Sought<'_>) -> bool
     requires directory { directory < length (N.catalogue names.now).directories }
     requires row { i < length (rows_of (N.catalogue names.now) directory) }

@@ -11,7 +11,7 @@ use cm_text::{LINE_LIMIT, NAME_LIMIT};
 #[derive(thiserror::Error, Clone, Copy, Debug, PartialEq, Eq)]
 pub enum SpecFault {
     /// It has not the form `device:<directory>name.type.generation`, each but the device and the directory only
-    /// behind the one before, or it is empty.
+    /// after the one before, or it is empty.
     #[error("Shape")]
     Shape,
     /// Its device, directory, name or type has more than 39 bytes.

@@ -1,7 +1,7 @@
--- The listed entries of a table that are put one behind the other.
+-- [question-mark] The listed entries of a table that are put one after the other.
 use Rattle.std.proofs.Common.{◌≡◌, ℕ, ◌+◌, Bool, List, ◌++◌, Some, slice_get, ap}
 use Rattle.cm_tables.specs.declared.entry.Entry.{Entry}
-use Rattle.cm_tables.specs.Listed.{listed_from, next_listed}
+use Rattle.cm_tables.specs.Listing.{listed_from, next_listed}
 use Rattle.cm_tables.proofs.ListedEntries.{listed_first}
 use Rattle.cm_help.specs.Phrase.{entry_line, entry_lines}
 

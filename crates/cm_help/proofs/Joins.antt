@@ -1,4 +1,4 @@
--- Phrases that are put one behind the other.
+-- Phrases that are put one after the other.
 use Rattle.std.proofs.Common.{◌≡◌, ℕ, ◌+◌, Bool, false, List, [], ◌∷◌, ◌++◌, drop, refl, ap, sym, ◌∙◌, ◌<◌, length, get_or, append_assoc}
 use Rattle.std.specs.List.{flat_map}
 use Rattle.cm_lists.proofs.Elements.{drop_here}
@@ -7,14 +7,14 @@ use Rattle.cm_blocks.specs.Setting.{Setting}
 use Rattle.cm_blocks.specs.Trial.{trial}
 use Rattle.cm_help.specs.Help.{lead, listing, phrases, possible, refuses}
 
--- further phrases behind others
+-- further phrases after others
 listing_on : (phrases more : List (List ℕ)) → listing false (phrases ++ more) ≡ listing false phrases ++ listing false more
 listing_on [] more = refl
 listing_on (phrase ∷ phrases) more =
     ap (λ bytes. (lead false ++ phrase) ++ bytes) (listing_on phrases more)
     ∙ sym (append_assoc (lead false ++ phrase) (listing false phrases) (listing false more))
 
--- behind a first phrase all others are further ones
+-- after a first phrase all others are further ones
 pub listing_append : (first : Bool) (phrase : List ℕ) (phrases more : List (List ℕ))
     → listing first ((phrase ∷ phrases) ++ more) ≡ listing first (phrase ∷ phrases) ++ listing false more
 listing_append first phrase phrases more =

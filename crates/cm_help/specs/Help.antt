@@ -1,7 +1,7 @@
 -- What `?` shows of a line (COMND's help).
 use Rattle.std.specs.Prelude.{ℕ, Bool, true, false, not, if◌then◌else◌, nat_le, List, [], ◌∷◌, ◌++◌, ◌==◌, ◌&&◌, length, drop, map, filter, codes, Option, Some, None, slice_get}
 use Rattle.std.specs.List.{flat_map}
-use Rattle.cm_text.specs.Shown.{end_of_line}
+use Rattle.cm_text.specs.ScreenBytes.{end_of_line}
 use Rattle.cm_fields.specs.declared.trial.Try.{Try}
 use Rattle.cm_fields.specs.declared.trial.Try.TheVariants.{Accept, Refuse, More}
 use Rattle.cm_fields.specs.Code.{code_text}
@@ -37,17 +37,17 @@ abbrev pub is_guide : Function → Bool
 is_guide (Noise text) = true
 is_guide function = false
 
--- behind a guide word of which nothing is typed, and which may be left out, the blocks of its next node may come too
-abbrev pub behind_guide : Graph → Meanings → Block → List ℕ → List (List ℕ)
-behind_guide graph meanings block atom =
+-- after a guide word of which nothing is typed, and which may be left out, the blocks of its next node may come too
+abbrev pub after_guide : Graph → Meanings → Block → List ℕ → List (List ℕ)
+after_guide graph meanings block atom =
     if is_guide block.function && length atom == 0 then node_phrases graph meanings (slice_get graph.nodes block.next)
     else []
 
 -- the phrases that a block gives
 abbrev pub phrases : Graph → Meanings → List ℕ → Block → List (List ℕ)
-phrases graph meanings atom block = phrase graph meanings atom block ∷ behind_guide graph meanings block atom
+phrases graph meanings atom block = phrase graph meanings atom block ∷ after_guide graph meanings block atom
 
--- the first phrase stands behind a space, each further one on a line of its own
+-- the first phrase stands after a space, each further one on a line of its own
 unfoldable pub lead : Bool → List ℕ
 lead true = codes " "
 lead false = end_of_line ++ codes " or "
@@ -71,7 +71,8 @@ at_place s line at None found = comment
 at_place s line at (Some block) None = []
 at_place s line at (Some block) (Some node) = waiting s node block (drop at line) at
 
--- what may come behind a line whose parse ends so, or why it is refused; a place that is none of the line gives nothing
+-- [question-mark]
+-- what may come after a line whose parse ends so, or why it is refused; a place that is none of the line gives nothing
 unfoldable pub help_text : Setting → Ending → List ℕ → List ℕ
 help_text s (ending.Open place) line =
     if nat_le place.at (length line) then at_place s line place.at place.block (slice_get s.graph.nodes place.node)

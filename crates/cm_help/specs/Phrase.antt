@@ -1,8 +1,8 @@
 -- What `?` says that a block reads.
 use Rattle.std.specs.Prelude.{ℕ, Bool, true, false, ◌&&◌, List, [], ◌∷◌, ◌++◌, drop, unwrap_or, codes, Option, Some, None}
-use Rattle.cm_text.specs.Shown.{end_of_line}
+use Rattle.cm_text.specs.ScreenBytes.{end_of_line}
 use Rattle.cm_tables.specs.declared.entry.Entry.{Entry}
-use Rattle.cm_tables.specs.Listed.{listed_from}
+use Rattle.cm_tables.specs.Listing.{listed_from}
 use Rattle.cm_blocks.specs.declared.function.Function.{Function}
 use Rattle.cm_blocks.specs.declared.function.Function.TheVariants.{Key, Switch, Noise, Number, Word, Quoted, Token, Date, User, Directory, InFile, OutFile, AnyFile, Text, Comma, Confirm, Hook}
 use Rattle.cm_blocks.specs.declared.node.Block.{Block}
@@ -10,7 +10,7 @@ use Rattle.cm_blocks.specs.Grammar.{Graph}
 use Rattle.cm_blocks.specs.Trial.{table_of}
 use Rattle.cm_hooks.specs.Meanings.{Meanings}
 
--- the entries of a list stand two places in, switches behind their slash
+-- the entries of a list stand two places in, switches after their slash
 unfoldable pub indent : Bool → List ℕ
 indent false = codes "  "
 indent true = codes "  /"
@@ -23,7 +23,7 @@ colon false = []
 unfoldable pub gap : List ℕ
 gap = codes "  "
 
--- the help of an entry, behind two spaces, where it has one
+-- the help of an entry, after two spaces, where it has one
 abbrev pub entry_help : Option (List ℕ) → List ℕ
 entry_help None = []
 entry_help (Some help) = gap ++ help
@@ -33,7 +33,7 @@ unfoldable pub entry_line : Bool → Entry → List ℕ
 entry_line switch entry =
     end_of_line ++ indent switch ++ entry.text ++ colon (switch && entry.colon) ++ entry_help entry.help
 
--- the entries, each with its position, one behind the other
+-- the entries, each with its position, one after the other
 abbrev pub entry_lines : Bool → List (ℕ × Entry) → List ℕ
 entry_lines switch [] = []
 entry_lines switch (place ∷ more) = entry_line switch place.1 ++ entry_lines switch more
@@ -58,7 +58,7 @@ guide_end = codes ")"
 unfoldable pub quote : List ℕ
 quote = codes "\""
 
--- what a function reads, in its own words; a switch is told by what stands behind its slash
+-- what a function reads, in its own words; a switch is told by what stands after its slash
 unfoldable pub function_phrase : Graph → Meanings → Function → List ℕ → List ℕ
 function_phrase graph meanings (Key table) atom = keywords false (listed_from 0 (table_of graph table) atom)
 function_phrase graph meanings (Switch table) atom = keywords true (listed_from 0 (table_of graph table) (drop 1 atom))

@@ -4,7 +4,7 @@
 ghost use Rattle.std.specs.Prelude.{◌≡◌, ◌≤◌, ◌++◌, All, [], drop, length, map, slice_get, true, false};
 ghost use Rattle.std.specs.List.{flat_map};
 ghost use Rattle.cm_text.specs.declared.text.TheConstants.{LINE_LIMIT};
-ghost use Rattle.cm_io.specs.Told.{Adds};
+ghost use Rattle.cm_io.specs.Contents.{Adds};
 ghost use Rattle.cm_io.specs.Fault.{PutCause};
 ghost use Rattle.cm_io.specs.Writer.{Writes};
 ghost use Rattle.cm_fields.specs.Code.{code_text};
@@ -12,7 +12,7 @@ ghost use Rattle.cm_blocks.specs.Setting.{setting};
 ghost use Rattle.cm_blocks.specs.Trial.{trial};
 ghost use Rattle.cm_blocks.specs.Well.{IsWell, IsWellBlock};
 ghost use Rattle.cm_help.specs.Phrase.{phrase};
-ghost use Rattle.cm_help.specs.Help.{at_place, behind_guide, comment, help_text, is_guide, lead, listing, node_phrases, phrases, possible, refuses, waiting};
+ghost use Rattle.cm_help.specs.Help.{after_guide, at_place, comment, help_text, is_guide, lead, listing, node_phrases, phrases, possible, refuses, waiting};
 
 use crate::phrase::put_phrase;
 use cm_blocks::{Block, Ending, Function, Grammar, Node, Open, try_function};
@@ -59,7 +59,7 @@ fn put_item<R: Rules, S: Sink>(
     put_phrase(grammar, block, atom, rules, out);
 }
 
-// Puts the phrases of these blocks, of which nothing is typed, behind others.
+// Puts the phrases of these blocks, of which nothing is typed, after others.
 #[tactic(auto, using(cm_io::proofs::Texts::turns))]
 fn put_untouched<R: Rules, S: Sink>(
     grammar: &Grammar,
@@ -76,7 +76,7 @@ fn put_untouched<R: Rules, S: Sink>(
     }
 }
 
-// Puts the phrases of all blocks of a node, of which nothing is typed, behind others.
+// Puts the phrases of all blocks of a node, of which nothing is typed, after others.
 fn put_node<R: Rules, S: Sink>(grammar: &Grammar, number: u16, rules: &R, out: &mut Writer<'_, S>)
     ensures { Writes S.Sink out.old out.new
         (listing false (node_phrases grammar.now (R.meanings rules.now) (slice_get grammar.now.nodes number))) }
@@ -93,9 +93,9 @@ fn is_guide(function: &Function) -> bool
     matches!(function, Function::Noise(_))
 }
 
-// Puts the phrases behind a guide word of which nothing is typed.
+// Puts the phrases after a guide word of which nothing is typed.
 #[tactic(auto, using(cm_io::proofs::Texts::writes_none))]
-fn put_behind_guide<R: Rules, S: Sink>(
+fn put_after_guide<R: Rules, S: Sink>(
     grammar: &Grammar,
     block: &Block,
     atom: &[u8],
@@ -103,7 +103,7 @@ fn put_behind_guide<R: Rules, S: Sink>(
     out: &mut Writer<'_, S>,
 )
     ensures { Writes S.Sink out.old out.new
-        (listing false (behind_guide grammar.now (R.meanings rules.now) block.now atom.now)) }
+        (listing false (after_guide grammar.now (R.meanings rules.now) block.now atom.now)) }
 {
     if is_guide(&block.function) && atom.is_empty() {
         put_node(grammar, block.next, rules, out);
@@ -124,7 +124,7 @@ fn put_phrases<R: Rules, S: Sink>(
         (listing first (phrases grammar.now (R.meanings rules.now) atom.now block.now)) }
 {
     put_item(first, grammar, block, atom, rules, out);
-    put_behind_guide(grammar, block, atom, rules, out);
+    put_after_guide(grammar, block, atom, rules, out);
 }
 
 // Whether the function of a block refuses the line from a place on.
@@ -239,8 +239,8 @@ fn put_refusal<S: Sink>(code: Code, out: &mut Writer<'_, S>)
 /// Puts what `?` shows of a line whose parse ends so (COMND's help).
 ///
 /// Where the line is open at a field, that is a list of what the blocks that wait may read, each in its own words: the
-/// first behind a space, each further one on a line of its own. A block that refuses what is typed is not among them,
-/// a keyword table lists its plain entries that go on from what is typed, and behind a guide word of which nothing
+/// first after a space, each further one on a line of its own. A block that refuses what is typed is not among them,
+/// a keyword table lists its plain entries that go on from what is typed, and after a guide word of which nothing
 /// is typed stand all blocks of the node that follows it. Where the line is refused, it is the reason; in a comment
 /// that is not ended, that it is one. Where the ending is none of the line, it is nothing.
 ///
@@ -254,14 +254,15 @@ pub fn help<N: Names, R: Rules, S: Sink>(
     sink: &mut S,
 ) -> Put
     requires line { length line.now ≤ LINE_LIMIT }
-    ensures bytes { Adds (S.told sink.old) (S.told sink.new)
+    // [question-mark]
+    ensures bytes { Adds (S.contents sink.old) (S.contents sink.new)
         (help_text (setting grammar.now (N.catalogue names.now) (R.meanings rules.now)) ending line.now) result }
     ensures later { S.faults sink.old ≤ S.faults sink.new }
     ensures cause { PutCause (S.faults sink.old) (S.faults sink.new) result }
 {
     let mut out = Writer::new(sink);
     put_help(grammar, ending, line, names, rules, &mut out);
-    out.went()
+    out.outcome()
 }
 
 /// The same where more is written: puts on a writer what `help` puts on a sink.

@@ -2,8 +2,8 @@
 #![tactic(auto, using(cm_io::proofs::Texts::texts))]
 
 ghost use Rattle.std.specs.Prelude.{◌≡◌, ◌<◌, ◌++◌, ◌&&◌, true, drop, None};
-ghost use Rattle.cm_text.specs.Shown.{end_of_line};
-ghost use Rattle.cm_tables.specs.Listed.{listed_from};
+ghost use Rattle.cm_text.specs.ScreenBytes.{end_of_line};
+ghost use Rattle.cm_tables.specs.Listing.{listed_from};
 ghost use Rattle.cm_io.specs.Writer.{Writes};
 ghost use Rattle.cm_blocks.specs.Fault.{has_table};
 ghost use Rattle.cm_blocks.specs.Well.{IsWellBlock};
@@ -71,7 +71,7 @@ fn gap() -> &'static [u8]
     b"  "
 }
 
-// Puts the help of an entry behind the entry, where it has one.
+// Puts the help of an entry after the entry, where it has one.
 #[tactic(auto, using(cm_io::proofs::Texts::texts, cm_io::proofs::Texts::each))]
 fn put_entry_help<S: Sink>(help: &Option<Name>, out: &mut Writer<'_, S>)
     ensures { Writes S.Sink out.old out.new (entry_help help.now) }
@@ -94,7 +94,7 @@ fn put_entry<S: Sink>(switch: bool, entry: &Entry, out: &mut Writer<'_, S>)
     put_entry_help(&entry.help, out);
 }
 
-// Puts the listed entries that go on from an atom, one behind the other.
+// Puts the listed entries that go on from an atom, one after the other.
 #[tactic(auto, using(cm_io::proofs::Texts::turns))]
 fn put_entries<S: Sink>(switch: bool, table: &Table, atom: &[u8], out: &mut Writer<'_, S>)
     ensures { Writes S.Sink out.old out.new (entry_lines switch (listed_from 0 table.now atom.now)) }
@@ -119,21 +119,21 @@ fn put_keywords<S: Sink>(switch: bool, table: &Table, atom: &[u8], out: &mut Wri
 }
 
 // Puts a text between two others.
-fn put_between<S: Sink>(before: &[u8], text: &[u8], behind: &[u8], out: &mut Writer<'_, S>)
-    ensures { Writes S.Sink out.old out.new (before.now ++ text.now ++ behind.now) }
+fn put_between<S: Sink>(before: &[u8], text: &[u8], after: &[u8], out: &mut Writer<'_, S>)
+    ensures { Writes S.Sink out.old out.new (before.now ++ text.now ++ after.now) }
 {
     out.put(before);
     out.put(text);
-    out.put(behind);
+    out.put(after);
 }
 
-// What is typed of a switch behind its slash.
-fn behind_slash(atom: &[u8]) -> &[u8]
+// What is typed of a switch after its slash.
+fn after_slash(atom: &[u8]) -> &[u8]
     ensures { result.now ≡ drop 1 atom.now }
 {
     match atom {
         [] => atom,
-        [_, behind @ ..] => behind,
+        [_, after @ ..] => after,
     }
 }
 
@@ -154,7 +154,7 @@ fn put_function<R: Rules, S: Sink>(
         Function::Switch(table) => put_keywords(
             true,
             grammar.table(*table),
-            behind_slash(atom),
+            after_slash(atom),
             out,
         ),
         Function::Noise(text) => put_between(guide_word(), text.as_bytes(), guide_end(), out),

@@ -1,6 +1,5 @@
 -- Which of several names an atom stands for by its beginning, and how it goes on. Letters have no case.
 use Rattle.std.specs.Prelude.{ℕ, Bool, ◌==◌, ◌&&◌, nat_le, if◌then◌else◌, List, [], ◌∷◌, length, take, drop, filter, map}
-use Rattle.std.specs.Borrow.{Bor}
 use Rattle.std.specs.List.{common_prefix_len, enumerate_from, fold, list_all}
 use Rattle.cm_text.specs.Bytes.{is_name}
 use Rattle.cm_text.specs.Case.{begins_with}
@@ -9,10 +8,6 @@ use Rattle.cm_hooks.specs.declared.answer.Answer.{Answer}
 use Rattle.cm_hooks.specs.declared.answer.Answer.TheVariants.{Yes, No}
 use Rattle.cm_hooks.specs.declared.answer.Tail.{Tail}
 use Rattle.cm_hooks.specs.declared.answer.Tail.TheVariants as tails
-
--- the texts that a slice of them shows
-abbrev pub texts : List (Bor (List ℕ)) → List (List ℕ)
-texts names = map (λ (name : Bor (List ℕ)). name.now) names
 
 -- name bytes alone, and at most as many as a name has
 abbrev pub is_name_text : List ℕ → Bool
@@ -40,7 +35,7 @@ verdict_among names atom = if length atom == 0 then No else only (under names at
 abbrev pub shared : List ℕ → List ℕ → List ℕ
 shared before text = take (common_prefix_len ◌==◌ text before) text
 
--- what is left of each name behind as many bytes
+-- what is left of each name after as many bytes
 abbrev pub rests : ℕ → List (ℕ × List ℕ) → List (List ℕ)
 rests size found = map (λ (name : ℕ × List ℕ). drop size name.1) found
 

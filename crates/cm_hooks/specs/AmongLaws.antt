@@ -10,7 +10,7 @@ use Rattle.cm_hooks.specs.Among.{are_names, completion_among, goes_on, is_name_t
 use Rattle.cm_hooks.specs.declared.answer.Tail.TheVariants as tails
 use Rattle.cm_hooks.specs.Meanings.{Completes, IsYes}
 
--- what all pass those behind some pass, and the first of them
+-- what all pass those after some pass, and the first of them
 list_all-drop : (p : ℕ → Bool) (n : ℕ) (xs : List ℕ) → list_all p xs ≡ true → list_all p (drop n xs) ≡ true
 list_all-drop p zero xs all = all
 list_all-drop p (suc n) [] all = refl

@@ -20,6 +20,6 @@ judged id (NoBecause reason) = Err (Own reason)
 unfoldable pub hook_of : (ℕ → List ℕ → Answer) → ℕ → List ℕ → Result Value Code
 hook_of verdict id run = if length run == 0 then Err NoField else judged id (verdict id run)
 
--- a run of name bytes
+-- [own-field] a run of name bytes
 abbrev pub hook : (ℕ → List ℕ → Answer) → ℕ → List ℕ → ℕ → Try
 hook verdict id rest at = by_run is_name (hook_of verdict id) rest at

@@ -30,7 +30,7 @@ pub fn verdict_among<T: AsStr>(names: &[T], atom: &[u8]) -> Answer
     found.map_or(Answer::No, Answer::Yes)
 }
 
-// What is left of a name behind an atom.
+// What is left of a name after an atom.
 fn rest<'a>(name: &'a str, atom: &[u8]) -> &'a str
     requires name { is_name_text name.now ≡ true }
     requires begins { begins_with name.now atom.now ≡ true }

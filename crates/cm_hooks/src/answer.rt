@@ -19,7 +19,7 @@ pub enum Answer {
 pub enum Tail {
     /// In no one way.
     None,
-    /// With these bytes, behind which there are several ways or none.
+    /// With these bytes, after which there are several ways or none.
     Part(Name),
     /// With these bytes, and then it is whole.
     Whole(Name),

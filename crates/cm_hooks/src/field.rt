@@ -38,6 +38,7 @@ fn hook_of<R: Rules>(rules: &R, id: u8, run: &[u8]) -> Result<Value, Code>
 pub fn hook_field<R: Rules>(rules: &R, id: u8, text: &[u8], at: usize) -> Try
     requires short { length text.now ≤ TEXT_LIMIT }
     requires place { at ≤ length text.now }
+    // [own-field]
     ensures { result ≡ hook (R.meanings rules.now).verdict id (drop at text.now) at }
 {
     let rest = &text[at..];

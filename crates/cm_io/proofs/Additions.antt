@@ -2,18 +2,18 @@
 use Rattle.std.proofs.Common.{◌≡◌, ℕ, ◌-◌, ◌^◌, ◌≤◌, List, [], ◌++◌, length, take, drop, refl, ap, sym, ◌∙◌, arith, append_assoc, length-append}
 use Rattle.std.proofs.lemmas.List.{append-nil, take-append-drop}
 use Rattle.cm_lists.proofs.Numbers.{max_min_add}
-use Rattle.cm_io.specs.Told.{Told, Nothing, Number, Bytes, add, AddsPart}
+use Rattle.cm_io.specs.Contents.{Contents, Nothing, Number, Bytes, add, AddsPart}
 use Rattle.cm_io.specs.Fault.{Rose}
 
 -- no bytes add nothing
-pub add_none : (told : Told) → add told [] ≡ told
+pub add_none : (contents : Contents) → add contents [] ≡ contents
 unfolding add
 add_none Nothing = refl
 add_none (Number n) = ap Number (omega arith)
 add_none (Bytes given) = ap Bytes (append-nil given)
 
 -- two pieces put one after the other are put as one
-pub add_append : (told : Told) (first second : List ℕ) → add told (first ++ second) ≡ add (add told first) second
+pub add_append : (contents : Contents) (first second : List ℕ) → add contents (first ++ second) ≡ add (add contents first) second
 unfolding add
 add_append Nothing first second = refl
 add_append (Number n) first second =
@@ -21,7 +21,7 @@ add_append (Number n) first second =
 add_append (Bytes given) first second = ap Bytes (sym (append_assoc given first second))
 
 -- a part of the first piece is a part of both
-pub adds_early : (before now : Told) (first second : List ℕ) → AddsPart before now first
+pub adds_early : (before now : Contents) (first second : List ℕ) → AddsPart before now first
     → AddsPart before now (first ++ second)
 adds_early before now first second adds = record {
   part = adds.part;
@@ -34,7 +34,7 @@ adds_early before now first second adds = record {
 }
 
 -- the first piece and a part of the second are a part of both
-pub adds_late : (before now : Told) (first second : List ℕ) → AddsPart (add before first) now second
+pub adds_late : (before now : Contents) (first second : List ℕ) → AddsPart (add before first) now second
     → AddsPart before now (first ++ second)
 adds_late before now first second adds = record {
   part = first ++ adds.part;
@@ -47,7 +47,7 @@ adds_late before now first second adds = record {
 }
 
 -- a part of the second of three pieces is a part of all
-pub adds_between : (before now : Told) (first second third : List ℕ) → AddsPart (add before first) now second
+pub adds_between : (before now : Contents) (first second third : List ℕ) → AddsPart (add before first) now second
     → AddsPart before now ((first ++ second) ++ third)
 adds_between before now first second third adds = adds_early before now (first ++ second) third
     (adds_late before now first second adds)

@@ -13,7 +13,7 @@ use Rattle.cm_io.specs.declared.sink.Put.{Put}
 use Rattle.cm_io.specs.declared.sink.Put.TheVariants.{Done, Failed}
 use Rattle.cm_io.specs.declared.sink.Sink.{Ghosts}
 use Rattle.cm_io.specs.declared.writer.Writer.{Writer}
-use Rattle.cm_io.specs.Told.{Told, Adds, AddsPart, add}
+use Rattle.cm_io.specs.Contents.{Contents, Adds, AddsPart, add}
 use Rattle.cm_io.specs.Fault.{PutCause, Rose}
 use Rattle.cm_io.specs.Writer.{Outlet, Puts, PutsOn, Writes, outlet}
 pub use Rattle.cm_io.specs.Writer.{Left}
@@ -22,55 +22,55 @@ use Rattle.cm_io.specs.Pieces.{times}
 use Rattle.cm_io.proofs.Repeats.{times_none, times_more}
 use Rattle.cm_io.proofs.Additions.{add_none, add_append, adds_early, adds_late}
 
--- a text put behind one that was put
-adds_both : (a b c : Told) (first second : List ℕ) (went : Put) → b ≡ add a first → Adds b c second went
-    → Adds a c (first ++ second) went
-adds_both a b c first second Done put adds = adds ∙ ap (λ told. add told second) put ∙ sym (add_append a first second)
+-- a text put after one that was put
+adds_both : (a b c : Contents) (first second : List ℕ) (outcome : Put) → b ≡ add a first → Adds b c second outcome
+    → Adds a c (first ++ second) outcome
+adds_both a b c first second Done put adds = adds ∙ ap (λ contents. add contents second) put ∙ sym (add_append a first second)
 adds_both a b c first second Failed put adds =
-    adds_late a c first second (subst (λ told. AddsPart told c second) put adds)
+    adds_late a c first second (subst (λ contents. AddsPart contents c second) put adds)
 
 -- a count that stayed, and then is as the second put says
-pub cause_both : (a b c : ℕ) (went : Put) → b ≡ a → PutCause b c went → PutCause a c went
-cause_both a b c went stays cause = subst (λ n. PutCause n c went) stays cause
+pub cause_both : (a b c : ℕ) (outcome : Put) → b ≡ a → PutCause b c outcome → PutCause a c outcome
+cause_both a b c outcome stays cause = subst (λ n. PutCause n c outcome) stays cause
 
 -- both texts, by how the first went and how the second did
-puts_both : (a b c : Outlet) (first second : List ℕ) → PutsOn b.went b c second → PutsOn a.went a b first
-    → PutsOn a.went a c (first ++ second)
-puts_both a b c first second late early = by a.went b.went refl refl late early
+puts_both : (a b c : Outlet) (first second : List ℕ) → PutsOn b.outcome b c second → PutsOn a.outcome a b first
+    → PutsOn a.outcome a c (first ++ second)
+puts_both a b c first second late early = by a.outcome b.outcome refl refl late early
   where
-    whole : b.went ≡ Done → Puts b c second → Puts a b first → Puts a c (first ++ second)
+    whole : b.outcome ≡ Done → Puts b c second → Puts a b first → Puts a c (first ++ second)
     whole done more puts =
-        let put : b.told ≡ add a.told first = subst (λ went. Adds a.told b.told first went) done puts.bytes in
-        let stays : b.faults ≡ a.faults = subst (λ went. PutCause a.faults b.faults went) done puts.cause in
+        let put : b.contents ≡ add a.contents first = subst (λ outcome. Adds a.contents b.contents first outcome) done puts.bytes in
+        let stays : b.faults ≡ a.faults = subst (λ outcome. PutCause a.faults b.faults outcome) done puts.cause in
         record {
-          bytes = adds_both a.told b.told c.told first second c.went put more.bytes;
+          bytes = adds_both a.contents b.contents c.contents first second c.outcome put more.bytes;
           later = subst (λ n. n ≤ c.faults) stays more.later;
-          cause = cause_both a.faults b.faults c.faults c.went stays more.cause;
+          cause = cause_both a.faults b.faults c.faults c.outcome stays more.cause;
         }
 
-    part : b.went ≡ Failed → c ≡ b → Puts a b first → Puts a c (first ++ second)
+    part : b.outcome ≡ Failed → c ≡ b → Puts a b first → Puts a c (first ++ second)
     part failed same puts =
-        let added : AddsPart a.told b.told first = subst (λ went. Adds a.told b.told first went) failed puts.bytes in
-        let rose : Rose a.faults b.faults = subst (λ went. PutCause a.faults b.faults went) failed puts.cause in
-        let bytes : Adds a.told b.told (first ++ second) b.went =
-        subst (λ went. Adds a.told b.told (first ++ second) went) (sym failed)
-        (adds_early a.told b.told first second added) in
+        let added : AddsPart a.contents b.contents first = subst (λ outcome. Adds a.contents b.contents first outcome) failed puts.bytes in
+        let rose : Rose a.faults b.faults = subst (λ outcome. PutCause a.faults b.faults outcome) failed puts.cause in
+        let bytes : Adds a.contents b.contents (first ++ second) b.outcome =
+        subst (λ outcome. Adds a.contents b.contents (first ++ second) outcome) (sym failed)
+        (adds_early a.contents b.contents first second added) in
         subst (λ (at : Outlet). Puts a at (first ++ second)) (sym same)
         (record { bytes = bytes; later = puts.later; cause = puts.cause })
 
-    none : (middle : Put) → a.went ≡ Failed → b.went ≡ middle → PutsOn middle b c second → b ≡ a → c ≡ a
+    none : (middle : Put) → a.outcome ≡ Failed → b.outcome ≡ middle → PutsOn middle b c second → b ≡ a → c ≡ a
     none middle was is more same =
-        let failed : middle ≡ Failed = sym is ∙ ap (λ (at : Outlet). at.went) same ∙ was in
-        let stays : c ≡ b = subst (λ went. PutsOn went b c second) failed more in
+        let failed : middle ≡ Failed = sym is ∙ ap (λ (at : Outlet). at.outcome) same ∙ was in
+        let stays : c ≡ b = subst (λ outcome. PutsOn outcome b c second) failed more in
         stays ∙ same
 
-    by : (before middle : Put) → a.went ≡ before → b.went ≡ middle → PutsOn middle b c second → PutsOn before a b first
+    by : (before middle : Put) → a.outcome ≡ before → b.outcome ≡ middle → PutsOn middle b c second → PutsOn before a b first
         → PutsOn before a c (first ++ second)
     by Done Done was is more puts = whole is more puts
     by Done Failed was is same puts = part is same puts
     by Failed middle was is more same = none middle was is more same
 
--- two texts, one behind the other
+-- two texts, one after the other
 pub writes_both : {T : Type 0} (s : Ghosts T) (a b c : Writer T) (first second : List ℕ) → Writes s b c second
     → Writes s a b first → Writes s a c (first ++ second)
 writes_both s a b c first second late early = record {
@@ -80,18 +80,18 @@ writes_both s a b c first second late early = record {
 
 -- no text
 pub writes_none : {T : Type 0} (s : Ghosts T) (a : Writer T) → Writes s a a []
-writes_none s a = record { same = refl; puts = by a.went refl }
+writes_none s a = record { same = refl; puts = by a.outcome refl }
   where
-    by : (went : Put) → a.went ≡ went → PutsOn went (outlet s a) (outlet s a) []
+    by : (outcome : Put) → a.outcome ≡ outcome → PutsOn outcome (outlet s a) (outlet s a) []
     by Done is = record {
-      bytes = subst (λ went. Adds (outlet s a).told (outlet s a).told [] went) (sym is)
-          (sym (add_none (outlet s a).told));
+      bytes = subst (λ outcome. Adds (outlet s a).contents (outlet s a).contents [] outcome) (sym is)
+          (sym (add_none (outlet s a).contents));
       later = omega arith;
-      cause = subst (λ went. PutCause (outlet s a).faults (outlet s a).faults went) (sym is) refl;
+      cause = subst (λ outcome. PutCause (outlet s a).faults (outlet s a).faults outcome) (sym is) refl;
     }
     by Failed is = refl
 
--- the text of one element more, behind those of the elements before it
+-- the text of one element more, after those of the elements before it
 pub writes_each : {T A : Type 0} (s : Ghosts T) (a b c : Writer T) (f : A → List ℕ) (xs : List A) (i : ℕ) (d : A)
     → i < length xs
     → Writes s b c (f (get_or xs i d)) → Writes s a b (flat_map f (take i xs))
@@ -167,7 +167,7 @@ left_written s before now later rest whole writes left =
     subst (λ text. Writes s before later text) left.joined
     (writes_both s before now later left.front rest writes left.writes)
 
--- texts one behind the other
+-- texts one after the other
 pub ruleset texts = (writes_both)
 
 -- the texts of a list's elements, in a loop over them

@@ -69,23 +69,23 @@ CanWrite host bytes =
     × (length (unwrap_or host.output []) + length bytes ≤ host.room)
 
 -- what a load leaves: the numbers of calls and of faults
-abbrev pub behind_load : HostState → HostState
-behind_load host = record host {
+abbrev pub after_load : HostState → HostState
+after_load host = record host {
   calls = next_count host.calls;
   loads = next_count host.loads;
   faults = if is_listed host.fails host.calls then next_count host.faults else host.faults;
 }
 
 -- what a create leaves: the output, empty and open; where it fails, none is open, and the files are as before
-abbrev pub behind_create : HostState → List ℕ → Put → HostState
-behind_create host name Done = record host {
+abbrev pub after_create : HostState → List ℕ → Put → HostState
+after_create host name Done = record host {
   output_name = name;
   output = Some [];
   is_open = true;
   calls = next_count host.calls;
   creates = next_count host.creates;
 }
-behind_create host name Failed = record host {
+after_create host name Failed = record host {
   is_open = false;
   calls = next_count host.calls;
   creates = next_count host.creates;
@@ -98,16 +98,16 @@ part_written host content bytes =
     if is_listed host.fails host.calls then [] else take (host.room - length content) bytes
 
 -- what a write leaves
-abbrev pub behind_write : HostState → List ℕ → Put → HostState
-behind_write host bytes put = record host {
+abbrev pub after_write : HostState → List ℕ → Put → HostState
+after_write host bytes put = record host {
   output = option_map (λ content. content ++ part_written host content bytes) host.output;
   calls = next_count host.calls;
   faults = put_faults host.faults put;
 }
 
 -- what a close leaves: the files as they are, none of them open
-abbrev pub behind_close : HostState → Put → HostState
-behind_close host put = record host {
+abbrev pub after_close : HostState → Put → HostState
+after_close host put = record host {
   is_open = false;
   calls = next_count host.calls;
   faults = put_faults host.faults put;

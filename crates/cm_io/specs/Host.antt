@@ -1,7 +1,7 @@
 -- The files of a host: what each name has, if anything.
 use Rattle.std.specs.Prelude.{◌≡◌, ◌≢◌, ◌⊎◌, ℕ, List, [], ◌++◌, Option, Some, None}
 use Rattle.std.specs.Option.{option_map}
-use Rattle.cm_io.specs.Told.{IsPart}
+use Rattle.cm_io.specs.Contents.{IsPart}
 use Rattle.cm_io.specs.declared.sink.Put.{Put}
 use Rattle.cm_io.specs.declared.sink.Put.TheVariants.{Done, Failed}
 

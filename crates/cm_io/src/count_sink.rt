@@ -1,7 +1,7 @@
 // A sink that counts.
 ghost use Rattle.std.specs.Prelude.{◌≡◌, ◌≤◌, []};
 ghost use Rattle.cm_io.specs.Fault.{PutCause};
-ghost use Rattle.cm_io.specs.Told.{Adds, Number};
+ghost use Rattle.cm_io.specs.Contents.{Adds, Number};
 
 use crate::{Put, Sink};
 use std::marker::Model;
@@ -37,11 +37,11 @@ impl CountSink {
 }
 
 impl Sink for CountSink {
-    ghost told = { Number };
+    ghost contents = { Number };
 
     ghost faults = { λ _. 0 };
 
-    #[tactic(auto, unfolding(crate::specs::Told::add))]
+    #[tactic(auto, unfolding(crate::specs::Contents::add))]
     fn put(&mut self, bytes: &[u8]) -> Put
         ensures nothing { bytes.now ≡ [] → result ≡ Put.Done }
         ensures bytes { Adds (Number self.old) (Number self.new) bytes.now result }

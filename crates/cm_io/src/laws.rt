@@ -3,7 +3,7 @@ ghost use Rattle.std.specs.Prelude.{◌≡◌, ◌-◌, ◌^◌, ℕ, true, List
 ghost use Rattle.cm_io.specs.Fault.{last_count};
 ghost use Rattle.cm_io.specs.HeldFiles.{HostState, files_of};
 ghost use Rattle.cm_io.specs.Memory.{HostCounts, SinkState, SourceCounts, SourceState};
-ghost use Rattle.cm_io.specs.Told.{Bytes, Number};
+ghost use Rattle.cm_io.specs.Contents.{Bytes, Number};
 
 use crate::mem_host::FILE_NAME_LIMIT;
 use crate::words::{LONGEST_WORD, MOST_WORDS};
@@ -38,8 +38,8 @@ pub fn objects_tell_their_counts()
 pub fn objects_in_memory_tell_what_they_hold()
     ensures source { ⟦<MemSource as Source>⟧.tells ≡ true }
     ensures source_left { (source : SourceState) → ⟦<MemSource as Source>⟧.left source ≡ source.left }
-    ensures sink { (sink : SinkState) → ⟦<MemSink as Sink>⟧.told sink ≡ Bytes sink.bytes }
-    ensures count_sink { (sink : ℕ) → ⟦<CountSink as Sink>⟧.told sink ≡ Number sink }
+    ensures sink { (sink : SinkState) → ⟦<MemSink as Sink>⟧.contents sink ≡ Bytes sink.bytes }
+    ensures count_sink { (sink : ℕ) → ⟦<CountSink as Sink>⟧.contents sink ≡ Number sink }
     ensures clock { ⟦<MemClock as Clock>⟧.tells ≡ true }
     ensures clock_left { (clock : List ℕ) → ⟦<MemClock as Clock>⟧.left clock ≡ clock }
     ensures host { ⟦<MemHost as Host>⟧.tells ≡ true }

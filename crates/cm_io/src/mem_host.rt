@@ -4,7 +4,7 @@ ghost use Rattle.std.specs.Option.{option_map};
 ghost use Rattle.cm_io.specs.Fault.{PutCause, next_count};
 ghost use Rattle.cm_io.specs.Host.{KeepsOthers, Creates, Writes};
 ghost use Rattle.cm_io.specs.Loading.{Loads, IsWithin, LoadCause};
-ghost use Rattle.cm_io.specs.HeldFiles.{is_listed, closed_at, behind_load, behind_create, behind_write, behind_close};
+ghost use Rattle.cm_io.specs.HeldFiles.{is_listed, closed_at, after_load, after_create, after_write, after_close};
 
 use crate::fault::raised;
 use crate::reserved::Reserved;
@@ -162,7 +162,7 @@ impl Host for MemHost {
         ensures later { self.old.faults ≤ self.new.faults }
         ensures cause { LoadCause self.old.faults self.new.faults result }
         ensures failed { (result ≡ Loaded.Failed) ↔ IsTrue (is_listed self.old.fails self.old.calls) }
-        ensures leaves { self.new ≡ behind_load self.old }
+        ensures leaves { self.new ≡ after_load self.old }
     {
         let is_listed = is_listed(&self.fails, self.calls);
         self.calls = raised(self.calls);
@@ -194,7 +194,7 @@ impl Host for MemHost {
         ensures later { self.old.faults ≤ self.new.faults }
         ensures cause { PutCause self.old.faults self.new.faults result }
         ensures done { (result ≡ Put.Done) ↔ CanCreate self.old name.now }
-        ensures leaves { self.new ≡ behind_create self.old name.now result }
+        ensures leaves { self.new ≡ after_create self.old name.now result }
     {
         let is_listed = is_listed(&self.fails, self.calls);
         self.calls = raised(self.calls);
@@ -226,7 +226,7 @@ impl Host for MemHost {
         ensures later { self.old.faults ≤ self.new.faults }
         ensures cause { PutCause self.old.faults self.new.faults result }
         ensures done { (result ≡ Put.Done) ↔ CanWrite self.old bytes.now }
-        ensures leaves { self.new ≡ behind_write self.old bytes.now result }
+        ensures leaves { self.new ≡ after_write self.old bytes.now result }
     {
         let is_listed = is_listed(&self.fails, self.calls);
         self.calls = raised(self.calls);
@@ -251,7 +251,7 @@ impl Host for MemHost {
         ensures later { self.old.faults ≤ self.new.faults }
         ensures cause { PutCause self.old.faults self.new.faults result }
         ensures done { (result ≡ Put.Done) ↔ (is_listed self.old.fails self.old.calls ≡ false) }
-        ensures leaves { self.new ≡ behind_close self.old result }
+        ensures leaves { self.new ≡ after_close self.old result }
     {
         let is_listed = is_listed(&self.fails, self.calls);
         self.calls = raised(self.calls);

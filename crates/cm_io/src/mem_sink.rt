@@ -1,7 +1,7 @@
 // A sink in memory.
 ghost use Rattle.std.specs.Prelude.{◌≡◌, ◌≤◌, ◌↔◌, ◌+◌, ◌-◌, ◌++◌, [], length, take, IfOk};
 ghost use Rattle.cm_io.specs.Fault.{PutCause, put_faults};
-ghost use Rattle.cm_io.specs.Told.{Adds, Bytes};
+ghost use Rattle.cm_io.specs.Contents.{Adds, Bytes};
 
 use crate::fault::raised;
 use crate::reserved::Reserved;
@@ -48,11 +48,11 @@ impl MemSink {
 }
 
 impl Sink for MemSink {
-    ghost told = { λ sink. Bytes sink.bytes };
+    ghost contents = { λ sink. Bytes sink.bytes };
 
     ghost faults = { λ sink. sink.faults };
 
-    #[tactic(auto, using(crate::proofs::Additions::adds_prefix), unfolding(crate::specs::Told::add))]
+    #[tactic(auto, using(crate::proofs::Additions::adds_prefix), unfolding(crate::specs::Contents::add))]
     fn put(&mut self, bytes: &[u8]) -> Put
         ensures nothing { bytes.now ≡ [] → result ≡ Put.Done }
         ensures bytes { Adds (Bytes self.old.bytes) (Bytes self.new.bytes) bytes.now result }

@@ -57,7 +57,7 @@ impl Page {
         self.bytes.clear();
     }
 
-    /// Puts some bytes behind the others. There must be room.
+    /// Puts some bytes after the others. There must be room.
     #[inline]
     pub fn put(&mut self, bytes: &[u8])
         requires { length self.old + length bytes.now ≤ PAGE_LIMIT }
@@ -66,7 +66,7 @@ impl Page {
         let _ = self.bytes.try_extend_from_slice(bytes);
     }
 
-    /// Puts the two hexadecimal digits of a byte behind the others, letters in lower case. There must be room.
+    /// Puts the two hexadecimal digits of a byte after the others, letters in lower case. There must be room.
     pub fn put_hex(&mut self, byte: u8)
         requires { length self.old + 2 ≤ PAGE_LIMIT }
         ensures value { self.new ≡ self.old ++ hex byte }
@@ -75,7 +75,7 @@ impl Page {
         self.put(&hex_digits(byte));
     }
 
-    /// Puts the decimal digits of a number behind the others, with no zero before them. There must be room for the
+    /// Puts the decimal digits of a number after the others, with no zero before them. There must be room for the
     /// longest number.
     #[tactic(auto, using(cm_lists::proofs::Digits::decimal_fits))]
     pub fn put_decimal(&mut self, number: u64)
@@ -87,7 +87,7 @@ impl Page {
     }
 }
 
-// Puts the digits of a number behind other bytes, where there is room for just these. Of two digits, as most numbers
+// Puts the digits of a number after other bytes, where there is room for just these. Of two digits, as most numbers
 // of a log have, none is put by a call of its own.
 #[tactic(auto, using(std::proofs::lemmas::Fmt::decimal_digit))]
 fn push_digits(number: u64, bytes: &mut ArrayVec<u8, PAGE_LIMIT>)
@@ -105,7 +105,7 @@ fn push_digits(number: u64, bytes: &mut ArrayVec<u8, PAGE_LIMIT>)
     push_digit(number % 10, bytes);
 }
 
-// Puts one digit behind other bytes.
+// Puts one digit after other bytes.
 fn push_digit(digit: u64, bytes: &mut ArrayVec<u8, PAGE_LIMIT>)
     requires digit { digit < 10 }
     requires room { length bytes.old.items < PAGE_LIMIT }

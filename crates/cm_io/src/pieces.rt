@@ -1,44 +1,44 @@
 // One line or one number, put on a sink.
 ghost use Rattle.std.specs.Prelude.{◌≡◌, ◌≤◌, ◌<◌, ◌+◌, ◌++◌};
 ghost use Rattle.std.specs.Fmt.{decimal};
-ghost use Rattle.cm_io.specs.Told.{Adds};
+ghost use Rattle.cm_io.specs.Contents.{Adds};
 ghost use Rattle.cm_io.specs.Fault.{PutCause};
-ghost use Rattle.cm_text.specs.Shown.{end_of_line};
+ghost use Rattle.cm_text.specs.ScreenBytes.{end_of_line};
 ghost use Rattle.cm_io.specs.Pieces.{hex, hex_digit};
 
 use crate::{Put, Sink, Writer};
 
 /// Puts some bytes and the end of their line, CR and LF.
 pub fn put_line<S: Sink>(bytes: &[u8], sink: &mut S) -> Put
-    ensures bytes { Adds (S.told sink.old) (S.told sink.new) (bytes.now ++ end_of_line) result }
+    ensures bytes { Adds (S.contents sink.old) (S.contents sink.new) (bytes.now ++ end_of_line) result }
     ensures later { S.faults sink.old ≤ S.faults sink.new }
     ensures cause { PutCause (S.faults sink.old) (S.faults sink.new) result }
 {
     let mut out = Writer::new(sink);
     out.put_line(bytes);
-    out.went()
+    out.outcome()
 }
 
 /// Puts the decimal digits of a number, with no zero before them.
 pub fn put_decimal<S: Sink>(number: u64, sink: &mut S) -> Put
-    ensures bytes { Adds (S.told sink.old) (S.told sink.new) (decimal number) result }
+    ensures bytes { Adds (S.contents sink.old) (S.contents sink.new) (decimal number) result }
     ensures later { S.faults sink.old ≤ S.faults sink.new }
     ensures cause { PutCause (S.faults sink.old) (S.faults sink.new) result }
 {
     let mut out = Writer::new(sink);
     out.put_decimal(number);
-    out.went()
+    out.outcome()
 }
 
 /// Puts the two hexadecimal digits of a byte, letters in lower case.
 pub fn put_hex<S: Sink>(byte: u8, sink: &mut S) -> Put
-    ensures bytes { Adds (S.told sink.old) (S.told sink.new) (hex byte) result }
+    ensures bytes { Adds (S.contents sink.old) (S.contents sink.new) (hex byte) result }
     ensures later { S.faults sink.old ≤ S.faults sink.new }
     ensures cause { PutCause (S.faults sink.old) (S.faults sink.new) result }
 {
     let mut out = Writer::new(sink);
     out.put_hex(byte);
-    out.went()
+    out.outcome()
 }
 
 // The two hexadecimal digits of a byte.

@@ -39,7 +39,7 @@ pub enum Status {
     ReadFault,
     /// The screen or the log could not be written on.
     WriteFault,
-    /// Memory was wanting.
+    /// Memory ran out.
     NoMemory,
     /// As many keys were taken as a run takes, and it had not ended.
     KeyLimit,

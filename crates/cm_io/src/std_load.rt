@@ -40,7 +40,7 @@ fn load_opened(file: &mut File, alloc: Global, limit: usize) -> Loaded
     }
 }
 
-// Reads to the end of the file, behind no bytes.
+// Reads to the end of the file, after no bytes.
 fn read_whole(file: &mut File, bytes: Vec<u8>, limit: usize) -> Loaded
     requires { length bytes.items ≤ limit }
     ensures within { IsWithin limit result }

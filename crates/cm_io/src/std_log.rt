@@ -1,6 +1,6 @@
 // Standard error, a line at a time.
 ghost use Rattle.std.specs.Prelude.{◌≡◌};
-ghost use Rattle.cm_io.specs.Told.{Nothing};
+ghost use Rattle.cm_io.specs.Contents.{Nothing};
 
 use crate::fault::raised;
 use crate::std_write::write_whole;
@@ -84,11 +84,11 @@ impl StdLog {
 }
 
 impl Sink for StdLog {
-    ghost told = { λ _. Nothing };
+    ghost contents = { λ _. Nothing };
 
     ghost faults = { λ log. log };
 
-    #[tactic(auto, using(crate::proofs::Additions::adds_nothing), unfolding(crate::specs::Told::add))]
+    #[tactic(auto, using(crate::proofs::Additions::adds_nothing), unfolding(crate::specs::Contents::add))]
     fn put(&mut self, bytes: &[u8]) -> Put {
         if bytes.is_empty() {
             return Put::Done;

@@ -1,6 +1,6 @@
 // Standard output.
 ghost use Rattle.std.specs.Prelude.{◌≡◌};
-ghost use Rattle.cm_io.specs.Told.{Nothing};
+ghost use Rattle.cm_io.specs.Contents.{Nothing};
 
 use crate::fault::raised;
 use crate::std_write::write_whole;
@@ -36,11 +36,11 @@ impl StdSink {
 }
 
 impl Sink for StdSink {
-    ghost told = { λ _. Nothing };
+    ghost contents = { λ _. Nothing };
 
     ghost faults = { λ sink. sink };
 
-    #[tactic(auto, using(crate::proofs::Additions::adds_nothing), unfolding(crate::specs::Told::add))]
+    #[tactic(auto, using(crate::proofs::Additions::adds_nothing), unfolding(crate::specs::Contents::add))]
     fn put(&mut self, bytes: &[u8]) -> Put {
         if bytes.is_empty() {
             return Put::Done;

@@ -1,12 +1,12 @@
 // A writer: a sink that is given no more once it has failed.
 // A function that puts bytes in pieces is straight-line code over a Writer, with one clause, as Writes S.Sink out.old
 // out.new (indent.now ++ text.now ++ end_of_line). It closes with using(cm_io::proofs::Texts::texts). A public call
-// that is handed a sink makes Writer::new(sink), calls that function and gives out.went(); its clauses are Adds of what
-// is told, that the faults do not fall, and PutCause. Writer::new(sink) and two puts in one function stay open. What
-// puts in another way gives a Put, and not a step of four cases.
+// that is handed a sink makes Writer::new(sink), calls that function and gives out.outcome(); its clauses are Adds of
+// what is told, that the faults do not fall, and PutCause. Writer::new(sink) and two puts in one function stay open.
+// What puts in another way gives a Put, and not a step of four cases.
 ghost use Rattle.std.specs.Prelude.{◌≡◌, ◌++◌};
 ghost use Rattle.std.specs.Fmt.{decimal};
-ghost use Rattle.cm_text.specs.Shown.{end_of_line};
+ghost use Rattle.cm_text.specs.ScreenBytes.{end_of_line};
 ghost use Rattle.cm_io.specs.Pieces.{hex, times};
 ghost use Rattle.cm_io.specs.Writer.{Begins, Writes, outlet};
 
@@ -19,7 +19,7 @@ use cm_text::{decimal_digits, end_of_line};
 #[derive(Drop)]
 pub struct Writer<'a, S: Sink> {
     sink: &'a mut S,
-    went: Put,
+    outcome: Put,
 }
 
 impl<'a, S: Sink> Writer<'a, S> {
@@ -29,23 +29,23 @@ impl<'a, S: Sink> Writer<'a, S> {
     {
         Writer {
             sink,
-            went: Put::Done,
+            outcome: Put::Done,
         }
     }
 
     /// How the puts went: Failed where one has failed.
-    pub fn went(&self) -> Put
-        ensures { result ≡ (outlet S.Sink self.now).went }
+    pub fn outcome(&self) -> Put
+        ensures { result ≡ (outlet S.Sink self.now).outcome }
     {
-        self.went
+        self.outcome
     }
 
     /// Writes some bytes.
     pub fn put(&mut self, bytes: &[u8])
         ensures { Writes S.Sink self.old self.new bytes.now }
     {
-        if self.went == Put::Done {
-            self.went = self.sink.put(bytes);
+        if self.outcome == Put::Done {
+            self.outcome = self.sink.put(bytes);
         }
     }
 

@@ -10,7 +10,7 @@ pub enum KeyClass {
     Text,
     /// CR or LF, which finish the line.
     End,
-    /// CR or LF behind a hyphen, which continue the line. No key is this by itself; [`Line::class`] tells it.
+    /// CR or LF after a hyphen, which continue the line. No key is this by itself; [`Line::class`] tells it.
     ///
     /// [`Line::class`]: crate::Line::class
     Join,

@@ -6,7 +6,7 @@ ghost use Rattle.std.specs.Str.{IsAscii};
 ghost use Rattle.cm_text.specs.Bytes.{is_blank, is_line_byte, is_text, is_word};
 ghost use Rattle.cm_text.specs.Text.{IsLine, ends_in_hyphen, finished, joined};
 ghost use Rattle.cm_text.specs.declared.text.TheConstants.{JOIN};
-ghost use Rattle.cm_line.specs.Finished.{line_of};
+ghost use Rattle.cm_line.specs.FinishedLine.{line_of};
 ghost use Rattle.cm_line.specs.Keys.{class_at};
 ghost use Rattle.cm_line.specs.Word.{unblanked, without_word, word_start};
 
@@ -15,7 +15,7 @@ use arrayvec::ArrayVec;
 use cm_text::{JOIN, LINE_LIMIT, TEXT_LIMIT, ends_in_hyphen};
 use std::marker::Model;
 
-/// A line under edit: at most 255 bytes, each a text byte or the join byte. Contracts see these bytes. Behind them it
+/// A line under edit: at most 255 bytes, each a text byte or the join byte. Contracts see these bytes. After them it
 /// holds the carriage return that would finish it, so that the finished text is there without a copy.
 #[derive(Debug, Drop)]
 pub struct Line {

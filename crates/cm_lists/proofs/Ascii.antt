@@ -10,7 +10,7 @@ use Rattle.std.proofs.lemmas.Str.{IsAscii-drop, IsAscii-take, IsUtf8-from_ascii}
 use Rattle.std.proofs.lemmas.Str.Ascii.{lowercase-uppercase, uppercase_ascii}
 use Rattle.cm_lists.proofs.Bools.{same_truth}
 
--- what is behind a part of an ASCII text is one
+-- what is after a part of an ASCII text is one
 pub IsAscii_rest : (size : ℕ) (text : List ℕ) → IsAscii text → IsAscii (take (length text - size) (drop size text))
 IsAscii_rest size text is = IsAscii-take (drop size text) (length text - size) (IsAscii-drop text size is)
 

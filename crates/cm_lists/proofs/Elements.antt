@@ -1,4 +1,4 @@
--- The element at a place: behind a front, of a part, changed, and the last.
+-- The element at a place: after a front, of a part, changed, and the last.
 use Rattle.std.proofs.Common.{List, None, Option, Some, [], ap, append_assoc, arith, drop, get_or, insert, length, map, refl, set, slice_get, subst, suc, sym, take, unwrap_or, zero, ℕ, ◌++◌, ◌+◌, ◌-◌, ◌<◌, ◌∙◌, ◌∷◌, ◌≡◌, ◌≤◌}
 use Rattle.std.specs.List.{flat_map}
 use Rattle.std.specs.Option.{option_map}
@@ -23,12 +23,12 @@ slice_get-append_add (x ∷ front) more i =
     let next : length (x ∷ front) + i ≡ suc (length front + i) = omega arith in
     ap (slice_get (x ∷ (front ++ more))) next ∙ slice_get-append_add front more i
 
--- the element behind a front
+-- the element after a front
 pub slice_get_at : {X : Type 0} (x : X) (xs front : List X) → slice_get (front ++ x ∷ xs) (length front) ≡ Some x
 slice_get_at x xs [] = refl
 slice_get_at x xs (first ∷ front) = slice_get_at x xs front
 
--- an element behind others
+-- an element after others
 pub slice_get-drop : {X : Type 0} (n : ℕ) (xs : List X) (i : ℕ) → slice_get (drop n xs) i ≡ slice_get xs (n + i)
 slice_get-drop zero xs i = ap (slice_get xs) (omega arith)
 slice_get-drop (suc n) [] i = refl

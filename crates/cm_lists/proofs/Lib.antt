@@ -4,6 +4,7 @@ pub mod Bools
 pub mod Digits
 pub mod Elements
 pub mod Filters
+pub mod Insertions
 pub mod Numbers
 pub mod Options
 pub mod Orders

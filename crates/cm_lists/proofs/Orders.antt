@@ -34,11 +34,11 @@ is_eq_from_reverse Greater is = absurd (cc)
 pub then_squeeze : (first second third fourth : Ordering) → ordering_then first (ordering_then second third) ≡ Less
     → ordering_then (ordering_reverse first) (ordering_then (ordering_reverse second) fourth) ≡ Less
     → (first ≡ Equal) × (second ≡ Equal)
-then_squeeze Less second third fourth less behind = absurd (cc)
-then_squeeze Equal Less third fourth less behind = absurd (cc)
-then_squeeze Equal Equal third fourth less behind = (refl, refl)
-then_squeeze Equal Greater third fourth less behind = absurd (cc)
-then_squeeze Greater second third fourth less behind = absurd (cc)
+then_squeeze Less second third fourth less after = absurd (cc)
+then_squeeze Equal Less third fourth less after = absurd (cc)
+then_squeeze Equal Equal third fourth less after = (refl, refl)
+then_squeeze Equal Greater third fourth less after = absurd (cc)
+then_squeeze Greater second third fourth less after = absurd (cc)
 
 pub is_eq_then_first : (o p : Ordering) → is_eq (ordering_then o p) ≡ true → o ≡ Equal
 is_eq_then_first Less p is = absurd (cc)

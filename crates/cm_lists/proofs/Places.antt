@@ -11,11 +11,11 @@ use Rattle.cm_lists.proofs.Ascents.{all_above, is_sorted}
 use Rattle.cm_lists.proofs.Elements.{slice_get-append_add, slice_get-append_left}
 use Rattle.cm_lists.proofs.Positions.{no_position, position_at}
 
--- what may stand behind an element of this place
+-- what may stand after an element of this place
 abbrev pub may_follow : Ordering → Ordering → Bool
-may_follow Less behind = true
-may_follow Equal behind = not (is_lt behind)
-may_follow Greater behind = is_gt behind
+may_follow Less after = true
+may_follow Equal after = not (is_lt after)
+may_follow Greater after = is_gt after
 
 -- places that never fall
 abbrev pub rises : {X : Type 0} → (X → Ordering) → List X → Bool
@@ -23,12 +23,12 @@ rises place [] = true
 rises place (x ∷ xs) = list_all (λ y. may_follow (place x) (place y)) xs && rises place xs
 
 -- a list in three parts, where what passes a test is the middle one
-pub record Parts {X : Type 0} (test : X → Bool) (xs middle : List X) (first behind : ℕ) : Type 0 where
+pub record Parts {X : Type 0} (test : X → Bool) (xs middle : List X) (first after : ℕ) : Type 0 where
   pub lower : List X
   pub upper : List X
   pub whole : xs ≡ lower ++ (middle ++ upper)
   pub starts : first ≡ length lower
-  pub ends : behind ≡ length lower + length middle
+  pub ends : after ≡ length lower + length middle
   pub below : list_all (λ x. not (test x)) lower ≡ true
   pub above : list_all (λ x. not (test x)) upper ≡ true
 
@@ -151,17 +151,17 @@ follows_itself Equal = refl
 follows_itself Greater = refl
 
 -- how long the middle part is, and where each of it stands
-pub block_at : {X : Type 0} (test : X → Bool) (xs middle : List X) (first behind : ℕ) → Parts test xs middle first behind
+pub block_at : {X : Type 0} (test : X → Bool) (xs middle : List X) (first after : ℕ) → Parts test xs middle first after
     → (i : ℕ) → i < length middle → slice_get middle i ≡ slice_get xs (first + i)
-block_at test xs middle first behind parts i within =
+block_at test xs middle first after parts i within =
     let start = parts.starts in
     sym (ap (λ (k : ℕ). slice_get xs (k + i)) start
     ∙ ap (λ each. slice_get each (length parts.lower + i)) parts.whole
     ∙ slice_get-append_add parts.lower (middle ++ parts.upper) i ∙ slice_get-append_left middle parts.upper i within)
 
-pub block_within : {X : Type 0} (test : X → Bool) (xs middle : List X) (first behind : ℕ) → Parts test xs middle first behind
-    → (behind ≡ first + length middle) × (behind ≤ length xs)
-block_within test xs middle first behind parts =
+pub block_within : {X : Type 0} (test : X → Bool) (xs middle : List X) (first after : ℕ) → Parts test xs middle first after
+    → (after ≡ first + length middle) × (after ≤ length xs)
+block_within test xs middle first after parts =
     let start = parts.starts in
     let end = parts.ends in
     let whole = ap length parts.whole in
@@ -181,13 +181,13 @@ follows_of compare total wanted x y not_above = by (compare x y) refl not_above 
     by Less less not_above Less is = refl
     by Less less not_above Equal is =
         let below : compare wanted y ≡ Less = sym (total.congr x wanted y is) ∙ less in
-        let behind = total.antisymm y wanted ∙ ap ordering_reverse below in
-        ap (λ (o : Ordering). not (is_lt o)) behind
+        let after = total.antisymm y wanted ∙ ap ordering_reverse below in
+        ap (λ (o : Ordering). not (is_lt o)) after
     by Less less not_above Greater is =
         let below : compare wanted x ≡ Less = total.antisymm wanted x ∙ ap ordering_reverse is in
         let far = total.trans wanted x y below less in
-        let behind = total.antisymm y wanted ∙ ap ordering_reverse far in
-        ap is_gt behind
+        let after = total.antisymm y wanted ∙ ap ordering_reverse far in
+        ap is_gt after
     by Greater more not_above a is = absurd (cc)
 
 -- what does not fall along sorted elements
@@ -197,16 +197,16 @@ pub rises_sorted : {X Y : Type 0} (compare : X → X → Ordering) (under : Y �
 rises_sorted compare under total part falls wanted [] sorted = refl
 rises_sorted {X} {Y} compare under total part falls wanted (x ∷ xs) sorted =
     let parts = and_parts _ _ sorted in
-    and_from _ _ (behind xs parts.0) (rises_sorted compare under total part falls wanted xs parts.1)
+    and_from _ _ (after xs parts.0) (rises_sorted compare under total part falls wanted xs parts.1)
   where
-    behind : (more : List X) → all_above compare x more ≡ true
+    after : (more : List X) → all_above compare x more ≡ true
         → list_all (λ y. may_follow (under (part x) wanted) (under (part y) wanted)) more ≡ true
-    behind [] above = refl
-    behind (y ∷ more) above =
+    after [] above = refl
+    after (y ∷ more) above =
         let parts = and_parts _ _ above in
-        and_from _ _ (follows_of under total wanted (part x) (part y) (falls x y parts.0)) (behind more parts.1)
+        and_from _ _ (follows_of under total wanted (part x) (part y) (falls x y parts.0)) (after more parts.1)
 
--- the first element at a place is the one behind those below it
+-- the first element at a place is the one after those below it
 pub found_first : {X : Type 0} (place : X → Ordering) (xs : List X) (d : X)
     → prefix_len (λ x. is_lt (place x)) xs < length xs
     → is_eq (place (get_or xs (prefix_len (λ x. is_lt (place x)) xs) d)) ≡ true

@@ -6,7 +6,7 @@ use Rattle.std.proofs.lemmas.Bool.Decides.{nat_tests}
 use Rattle.std.proofs.lemmas.List.Folds.{prefix_len-append}
 use Rattle.std.proofs.lemmas.List.Sums.{prefix_len_is}
 
--- a prefix of all that pass, and one behind it that does not
+-- a prefix of all that pass, and one after it that does not
 pub prefix_len_stop : {X : Type 0} (p : X → Bool) (front : List X) (byte : X) (more : List X) → list_all p front ≡ true → p byte ≡ false
     → prefix_len p (front ++ byte ∷ more) ≡ length front
 prefix_len_stop p [] byte more all stop = rw stop refl
@@ -94,10 +94,10 @@ all_of_prefix p (byte ∷ text) = by (p byte) refl (all_of_prefix p text)
         subst (λ (n : ℕ). list_all p (take n (byte ∷ text)) ≡ true) (sym size) (rw is all)
     by false is all = refl
 
--- a point that all before it pass, and none behind
+-- a point that all before it pass, and none after
 pub prefix_len_at : {X : Type 0} (test : X → Bool) (xs : List X) (at : ℕ) → at ≤ length xs
     → ((k : ℕ) (d : X) → 0 ≤ k → k < at → test (get_or xs k d) ≡ true)
     → ((k : ℕ) (d : X) → at ≤ k → k < length xs → test (get_or xs k d) ≡ false) → prefix_len test xs ≡ at
-prefix_len_at test [] at bound before behind = omega arith
-prefix_len_at test (x ∷ xs) at bound before behind =
-    prefix_len_is test (x ∷ xs) at x bound (λ k below. before k x (omega arith) below) (λ below. behind at x (omega arith) below)
+prefix_len_at test [] at bound before after = omega arith
+prefix_len_at test (x ∷ xs) at bound before after =
+    prefix_len_is test (x ∷ xs) at x bound (λ k below. before k x (omega arith) below) (λ below. after at x (omega arith) below)

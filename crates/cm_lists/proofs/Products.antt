@@ -9,7 +9,7 @@ pub tried_more : (old now looked place cost : ℕ) → looked ≤ old + place * 
     → now ≤ old + (place + 1) * cost
 tried_more old now looked place cost so_far more = let whole = add-mul place 1 cost in omega (arith, whole)
 
--- a part found behind so many places leaves less of both
+-- a part found after so many places leaves less of both
 pub spend : (a b k s p n : ℕ) → 1 ≤ b → p ≡ a + (s + 1) → n ≡ b + (k + s) → (k + 1) * (s + 1) + a * b ≤ p * n
 spend a b k s p n some p_is n_is =
     let whole = add-mul a (s + 1) (b + (k + s)) in
@@ -37,7 +37,7 @@ pub spend_last : (parts rest : List ℕ) (looked now budget : ℕ) → looked + 
     → now ≤ looked + (length parts + 1) → now ≤ budget
 spend_last parts rest looked now budget so_far more = let most = once (length parts + 1) (length rest) in omega (arith, most)
 
--- the goals of the first part: it is the last too, and more is behind it
+-- the goals of the first part: it is the last too, and more is after it
 pub spend_first : (parts rest : List ℕ) (size old now : ℕ) → size ≤ length parts → now ≤ old + (length (take size parts) + 1)
     → now ≤ old + (length parts + 1) * (length rest + 1)
 spend_first parts rest size old now within more =
@@ -45,18 +45,18 @@ spend_first parts rest size old now within more =
     let most = once (length parts + 1) (length rest) in
     omega (arith, taken, most)
 
-pub spend_behind : (parts rest : List ℕ) (size old looked now : ℕ) → size < length parts → length (take size parts) ≤ length rest
+pub spend_after : (parts rest : List ℕ) (size old looked now : ℕ) → size < length parts → length (take size parts) ≤ length rest
     → looked ≤ old + (length (take size parts) + 1)
     → now ≤ looked + (length (drop (size + 1) parts) + 1) * (length (drop size rest) + 1)
     → now ≤ old + (length parts + 1) * (length rest + 1)
-spend_behind parts rest size old looked now within fits first more =
+spend_after parts rest size old looked now within fits first more =
     let taken = length-take-le size parts (omega arith) in
     let left = length-drop (size + 1) parts in
-    let behind = length-drop size rest in
+    let after = length-drop size rest in
     let spent = spend (length (drop (size + 1) parts) + 1) (length (drop size rest) + 1) 0 size (length parts + 1) (length rest + 1)
-    (omega arith) (omega (arith, left)) (omega (arith, behind, taken)) in
+    (omega arith) (omega (arith, left)) (omega (arith, after, taken)) in
     omega (arith, spent, taken)
 
 pub ruleset spent_walk = (spend_none, spend_last)
 
-pub ruleset spent_first = (spend_first, spend_behind)
+pub ruleset spent_first = (spend_first, spend_after)

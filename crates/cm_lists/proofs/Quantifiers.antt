@@ -206,7 +206,7 @@ none_of_all p q one (byte ∷ text) all =
 
 -- where no element passes, however it stands among the others, none does
 pub none_passes : {X : Type 0} (test : X → Bool) (all front rest : List X) → front ++ rest ≡ all
-    → ((before behind : List X) (x : X) → before ++ x ∷ behind ≡ all → test x ≡ false)
+    → ((before after : List X) (x : X) → before ++ x ∷ after ≡ all → test x ≡ false)
     → list_all (λ x. not (test x)) rest ≡ true
 none_passes test all front [] joined fails = refl
 none_passes test all front (x ∷ rest) joined fails =
@@ -217,10 +217,10 @@ pub any_past : {X : Type 0} (test : X → Bool) (xs : List X) (i : ℕ) (some : 
     → list_any test (drop i xs) ≡ some → length xs ≤ i → false ≡ some
 any_past test xs i some walk past = sym (ap (list_any test) (drop_all i xs past)) ∙ walk
 
-pub any_behind : {X : Type 0} (test : X → Bool) (before xs : List X) → AllByRecursion (λ y. test y ≡ false) before
+pub any_after : {X : Type 0} (test : X → Bool) (before xs : List X) → AllByRecursion (λ y. test y ≡ false) before
     → list_any test (before ++ xs) ≡ list_any test xs
-any_behind test [] xs none = refl
-any_behind test (first ∷ before) xs none = rw none.0 (any_behind test before xs none.1)
+any_after test [] xs none = refl
+any_after test (first ∷ before) xs none = rw none.0 (any_after test before xs none.1)
 
 pub any_first : {X : Type 0} (test : X → Bool) (first : X) (more : List X)
     → AllByRecursion (λ y. test y ≡ false) more → list_any test (first ∷ more) ≡ test first

@@ -7,7 +7,7 @@ use Rattle.std.proofs.Math.Nat.{add-mul, le-mul_of_pos_right, mul-add, mul-le-mu
 use Rattle.std.proofs.Math.Pow.{pow_mono}
 use Rattle.std.proofs.lemmas.List.{get_or_default}
 
--- what is sought is among these: those before them pass the test, and those behind them do not
+-- what is sought is among these: those before them pass the test, and those after them do not
 abbrev pub IsSought : {X : Type 0} → (X → Bool) → List X → ℕ → ℕ → Type 0
 IsSought test xs start size = IsPartitionedBy test xs
     → AllWithin (λ x. test x ≡ true) xs 0 start × AllWithin (λ x. test x ≡ false) xs (start + size) (length xs)

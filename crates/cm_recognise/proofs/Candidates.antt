@@ -8,7 +8,7 @@ use Rattle.std.proofs.lemmas.Slice.Eq.{bytes_eq-Decides}
 use Rattle.cm_tables.specs.Common.{AllBeginWith, shared}
 use Rattle.cm_tables.proofs.ShareLemmas.{fold-all, fold-first, fold-longest}
 use Rattle.cm_recognise.specs.declared.found.Found.TheVariants.{Nobody, One, Several}
-use Rattle.cm_recognise.specs.Found.{found_of, gather, with_text}
+use Rattle.cm_recognise.specs.Candidates.{found_of, gather, with_text}
 
 abbrev AreAll : List ℕ → List (List ℕ) → Type 0
 AreAll text texts = AllByRecursion (λ other. other ≡ text) texts

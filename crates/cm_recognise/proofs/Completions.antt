@@ -11,11 +11,11 @@ use Rattle.cm_fields.specs.declared.value.Value.{Value}
 use Rattle.cm_fields.specs.Local.{IsLocal, Stays}
 use Rattle.cm_fields.specs.Try.{by_run, said}
 use Rattle.cm_recognise.specs.declared.outcome.Outcome.TheVariants.{Whole}
-use Rattle.cm_recognise.specs.Found.{if_begins}
+use Rattle.cm_recognise.specs.Candidates.{if_begins}
 use Rattle.cm_recognise.specs.Outcome.{plain_outcome}
 use Rattle.cm_recognise.proofs.Plains.{EndsAt, IsOwn, run_whole}
 
--- what is typed, completed, and a space and more behind it are a field that ends with the completion
+-- what is typed, completed, and a space and more after it are a field that ends with the completion
 pub record TakesNamed (trial : List ℕ → ℕ → Try) (atom bytes more : List ℕ) (at : ℕ) : Type 0 where
   pub value : Value
   pub seen : ℕ

@@ -9,7 +9,7 @@ use Rattle.cm_fields.specs.declared.trial.Try.{Try}
 use Rattle.cm_fields.specs.declared.trial.Try.TheVariants.{Accept, Refuse, More}
 use Rattle.cm_fields.specs.declared.value.Value.{Value}
 use Rattle.cm_fields.specs.Local.{Stays}
-use Rattle.cm_fields.specs.Passed.{BeginsOther}
+use Rattle.cm_fields.specs.BeforeField.{BeginsOther}
 use Rattle.cm_fields.specs.Skip.{skip}
 use Rattle.cm_fields.proofs.FieldStarts.{skip_goes_on}
 use Rattle.cm_fields.proofs.Skips.{skip_within}
@@ -46,7 +46,7 @@ wants_from s rest at number looked code (block ∷ blocks) b is =
         (walk s rest at (number + 1) (max looked (looked_of (length rest) answer)) (code_of code answer) blocks) ≡ Wants b
         → number ≤ b
     by (Accept value seen end) after is = cc
-    by (Refuse refusal seen) after is = let behind = after (max looked seen) refusal is in omega arith
+    by (Refuse refusal seen) after is = let further = after (max looked seen) refusal is in omega arith
     by More after is = let same : number ≡ b = cc in omega arith
 
 -- the function of the block at a place wants more, and where it takes a field of the longer text, so does the walk
@@ -90,7 +90,7 @@ walk_goes s rest more at number looked code (first ∷ blocks) zero block found 
         let step = sym (walk_step s rest at number looked code block blocks (Accept value seen end) t) ∙ is in cc
     by (Refuse refusal seen) t is =
         let step = sym (walk_step s rest at number looked code block blocks (Refuse refusal seen) t) ∙ is in
-        let behind = wants_from s rest at (number + 1) (max looked seen) refusal blocks (number + 0) step in
+        let further = wants_from s rest at (number + 1) (max looked seen) refusal blocks (number + 0) step in
         absurd (omega arith)
     by More t is = record { wants = t; takes = takes }
 walk_goes s rest more at number looked code (first ∷ blocks) (suc place) block found is =

@@ -20,13 +20,13 @@ use Rattle.cm_fields.specs.declared.value.Span.{Span}
 use Rattle.cm_fields.specs.declared.value.Spec.{Spec}
 use Rattle.cm_fields.specs.declared.value.Value.{Value}
 use Rattle.cm_fields.specs.declared.value.Value.TheVariants as values
-use Rattle.cm_fields.specs.Passed.{BeginsOther}
+use Rattle.cm_fields.specs.BeforeField.{BeginsOther}
 use Rattle.cm_fields.specs.Try.{by_run, span}
 use Rattle.cm_files.specs.declared.row.LogicalName.{LogicalName}
 use Rattle.cm_files.specs.declared.spec.SpecFault.{SpecFault}
 use Rattle.cm_files.specs.Catalogue.{Catalogue, IsCatalogue, is_directory_name, is_logical, logical_of}
 use Rattle.cm_files.specs.Fields as fields
-use Rattle.cm_files.specs.Fields.{directory, directory_of, has_colon_behind, is_file, is_plain_path, is_user, is_user_named, user, user_named, user_of, user_or_refused}
+use Rattle.cm_files.specs.Fields.{directory, directory_of, has_colon_after, is_file, is_plain_path, is_user, is_user_named, user, user_named, user_of, user_or_refused}
 use Rattle.cm_files.specs.Pattern.{is_wild}
 use Rattle.cm_files.specs.Resolve.{by_device, by_directory, directory_named, has_wild, is_named, or_refused, refuse, then_in}
 use Rattle.cm_files.specs.Spec.{device_read, is_long, is_path, part, read_spec, stands_at}
@@ -37,7 +37,7 @@ use Rattle.cm_recognise.specs.declared.found.Found.{Found}
 use Rattle.cm_recognise.specs.declared.found.Found.TheVariants.{Nobody, One, Several}
 use Rattle.cm_recognise.specs.declared.outcome.Outcome.TheVariants.{Whole}
 use Rattle.cm_recognise.specs.FileOutcome.{directory_completion, completed, directory_outcome, opened, unclosed, user_outcome}
-use Rattle.cm_recognise.specs.Found.{directory_like, found_directories, found_users, missing, user_like}
+use Rattle.cm_recognise.specs.Candidates.{directory_like, found_directories, found_users, missing, user_like}
 use Rattle.cm_recognise.specs.Outcome.{plain_outcome}
 use Rattle.cm_recognise.proofs.Sources.{found_comes}
 use Rattle.cm_recognise.proofs.Completions.{TakesNamed, listed_of, plain_named, run_named}
@@ -86,8 +86,8 @@ space_no_path : is_plain_path 32 ≡ false
 unfolding is_name is_word
 space_no_path = refl
 
--- behind a whole name and a space no colon stands
-no_colon : (whole more : List ℕ) → list_all is_plain_path whole ≡ true → has_colon_behind (whole ++ 32 ∷ more) ≡ false
+-- after a whole name and a space no colon stands
+no_colon : (whole more : List ℕ) → list_all is_plain_path whole ≡ true → has_colon_after (whole ++ 32 ∷ more) ≡ false
 no_colon whole more all =
     let none : prefix_len is_plain_path (32 ∷ more) ≡ 0 = rw space_no_path refl in
     let size = prefix_len_stops is_plain_path whole (32 ∷ more) all none in
@@ -103,8 +103,8 @@ user_taken : (c : Catalogue) (atom bytes more : List ℕ) (at place : ℕ) → l
 unfolding user_of
 user_taken c atom bytes more at place all found =
     let text : atom ++ (bytes ++ 32 ∷ more) ≡ (atom ++ bytes) ++ 32 ∷ more = sym (append_assoc atom bytes (32 ∷ more)) in
-    let colon : has_colon_behind (atom ++ (bytes ++ 32 ∷ more)) ≡ false =
-    ap has_colon_behind text ∙ no_colon (atom ++ bytes) more all in
+    let colon : has_colon_after (atom ++ (bytes ++ 32 ∷ more)) ≡ false =
+    ap has_colon_after text ∙ no_colon (atom ++ bytes) more all in
     let named = run_named is_plain_path (user_of c false) atom bytes more at (values.User place) all space_no_path (ap user_or_refused found) tt in
     record {
       value = named.value;
@@ -186,7 +186,7 @@ device_short c is_catalogue atom meant is = by (device_read atom).part refl is
         (let small = subst (λ (place : Span). length (part atom place) ≤ NAME_LIMIT) of.is short in omega arith) in
         subst (λ (place : Span). is_long (Some place) ≡ false) (sym of.is) (grind (arith, nat_tests))
 
--- what stands behind an opening angle bracket
+-- what stands after an opening angle bracket
 unclosed_of : (byte : ℕ) (more typed : List ℕ) → unclosed (byte ∷ more) ≡ Some typed → byte ∷ more ≡ 60 ∷ typed
 unclosed_of byte more typed is = by (byte == 60) refl (not (list_any (λ other. other == 62) more)) is
   where

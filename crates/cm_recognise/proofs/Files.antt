@@ -27,7 +27,7 @@ use Rattle.cm_files.specs.declared.flags.Flags.{Flags}
 use Rattle.cm_files.specs.declared.spec.SpecFault.{SpecFault}
 use Rattle.cm_files.specs.Catalogue.{Catalogue, IsCatalogue, rows_of}
 use Rattle.cm_files.specs.Fields.{file, file_of, is_file, moved_spec}
-use Rattle.cm_files.specs.Passing.{may_pass, may_take}
+use Rattle.cm_files.specs.RowTrials.{may_pass, may_take}
 use Rattle.cm_files.specs.Pattern.{is_wild}
 use Rattle.cm_files.specs.Resolve.{by_device, by_directory, has_bad_copy, has_bad_wild, has_wild, is_all, is_bad_generation, is_in, refuse, resolve, then_in}
 use Rattle.cm_files.specs.Selection.{Wanted, is_seen, selects}
@@ -39,7 +39,7 @@ use Rattle.cm_recognise.specs.declared.file_outcome.Request.{Request}
 use Rattle.cm_recognise.specs.declared.outcome.Outcome.{Outcome}
 use Rattle.cm_recognise.specs.declared.outcome.Outcome.TheVariants.{Nothing, Whole}
 use Rattle.cm_recognise.specs.FileOutcome.{prefix_completion, by_kind, completion_in_directory, by_spec, file_outcome, generation_step, kind_step, meant, named_directory, opened}
-use Rattle.cm_recognise.specs.Found.{found_kinds, found_names, highest, missing}
+use Rattle.cm_recognise.specs.Candidates.{found_kinds, found_names, highest, missing}
 use Rattle.cm_recognise.specs.Outcome.{plain_outcome}
 use Rattle.cm_recognise.proofs.Completions.{TakesNamed, plain_named, run_named}
 use Rattle.cm_recognise.proofs.Directories.{file_of_path}
@@ -77,7 +77,7 @@ number_pattern true generation most = star_pattern
 number_pattern false generation most =
     all_weaker is_ascii_digit is_pattern digit_pattern (decimal generation) (decimal_digits generation (omega arith))
 
--- bytes that a specification may have behind its directory
+-- bytes that a specification may have after its directory
 pattern_of_name : (byte : ℕ) → is_name byte ≡ true → is_path byte ≡ true
 pattern_of_name byte is = rw is refl
 

@@ -3,7 +3,7 @@ use Rattle.std.proofs.Common.{◌≡◌, ℕ, zero, suc, ◌+◌, ◌<◌, ◌�
 use Rattle.std.specs.List.{cons_option, filter_map}
 use Rattle.std.specs.Option.{option_and_then}
 use Rattle.std.proofs.lemmas.List.{drop_all}
-use Rattle.cm_recognise.specs.Found.{gather, with_some}
+use Rattle.cm_recognise.specs.Candidates.{gather, with_some}
 
 -- what the first element gives comes before what the others give
 gather_first : (S X Y : Type 0) (step : S → Y → S) (f : X → Option Y) (x : X) (xs : List X) (so_far : S)
@@ -29,7 +29,7 @@ gather_next step f xs i so_far within =
     let next : suc i ≡ i + 1 = omega arith in
     rw (← next) (gather_at step f xs i so_far within)
 
--- behind the last element nothing more comes
+-- after the last element nothing more comes
 pub gather_past : {S X Y : Type 0} (step : S → Y → S) (f : X → Option Y) (xs : List X) (i : ℕ) (so_far : S) → length xs ≤ i
     → gather step so_far (filter_map f (drop i xs)) ≡ so_far
 gather_past step f xs i so_far past = ap (λ rest. gather step so_far (filter_map f rest)) (drop_all i xs past)

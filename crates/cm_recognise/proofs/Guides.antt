@@ -22,7 +22,7 @@ use Rattle.cm_fields.specs.Phrase.{is_inside, noise, same_letter, token, typed_n
 use Rattle.cm_fields.proofs.Phrases.{token_whole}
 use Rattle.cm_blocks.specs.Fault.{is_parenthesis}
 use Rattle.cm_recognise.specs.declared.outcome.Outcome.TheVariants.{Nothing, Whole}
-use Rattle.cm_recognise.specs.Found.{missing}
+use Rattle.cm_recognise.specs.Candidates.{missing}
 use Rattle.cm_recognise.specs.Outcome.{guide, phrase_outcome}
 
 -- what a phrase that begins with the atom is completed by
@@ -140,7 +140,7 @@ closed_takes text body more at all begins =
     let same : take (length body) (body ++ 41 ∷ more) ≡ body = take-append_seam body (41 ∷ more) in
     rw (run, other, byte, same, begins)
 
--- behind the opening parenthesis
+-- after the opening parenthesis
 inside_takes : (text inside more : List ℕ) (at : ℕ) → list_all is_inside text ≡ true → prefix_len is_inside inside ≡ length inside
     → begins_with (text ++ 41 ∷ []) inside ≡ true
     → typed_noise text (inside ++ (drop (length inside) (text ++ 41 ∷ []) ++ more)) at

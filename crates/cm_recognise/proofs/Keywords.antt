@@ -21,11 +21,11 @@ use Rattle.cm_fields.specs.declared.code.Code.{Code}
 use Rattle.cm_fields.specs.declared.code.Code.TheVariants.{NeedColon, NotSwitch}
 use Rattle.cm_fields.specs.declared.trial.Try.TheVariants.{Accept, Refuse, More}
 use Rattle.cm_fields.specs.declared.value.Value.TheVariants.{Key, Switch}
-use Rattle.cm_fields.specs.Passed.{BeginsOther}
-use Rattle.cm_blocks.specs.Keyword.{behind_slash, code_at, entry_position, has_colon, key, key_value, named_switch, switch}
+use Rattle.cm_fields.specs.BeforeField.{BeginsOther}
+use Rattle.cm_blocks.specs.Keyword.{after_slash, code_at, entry_position, has_colon, key, key_value, named_switch, switch}
 use Rattle.cm_blocks.specs.Trial.{entry_next}
 use Rattle.cm_recognise.specs.declared.outcome.Outcome.TheVariants.{Nothing, Part, Whole}
-use Rattle.cm_recognise.specs.Found.{missing}
+use Rattle.cm_recognise.specs.Candidates.{missing}
 use Rattle.cm_recognise.specs.Outcome.{entry_outcome, keyword_outcome, switch_outcome, text_at}
 use Rattle.cm_recognise.proofs.Plains.{run_wants, run_whole, space_no_word}
 use Rattle.cm_recognise.proofs.Texts.{AreKeywords, keywords_of}
@@ -148,7 +148,7 @@ named_not_more table at size colon (Ok position) is = by (has_colon table positi
     by true false is = cc
     by false colon is = cc
 
-slash_wants : (table : List Entry) (atom : List ℕ) (at : ℕ) → behind_slash table atom at ≡ More → prefix_len is_word atom ≡ length atom
+slash_wants : (table : List Entry) (atom : List ℕ) (at : ℕ) → after_slash table atom at ≡ More → prefix_len is_word atom ≡ length atom
 slash_wants table atom at is = by (prefix_len is_word atom == length atom) refl is
   where
     by : (test : Bool) → (prefix_len is_word atom == length atom) ≡ test
@@ -160,12 +160,12 @@ slash_wants table atom at is = by (prefix_len is_word atom == length atom) refl 
     by false ends is = absurd (named_not_more table at (prefix_len is_word atom) _ _ is)
 
 slash_takes : (table : List Entry) (whole more : List ℕ) (at position : ℕ) → IsEntry table whole position → has_colon table position ≡ false
-    → behind_slash table (whole ++ 32 ∷ more) at
+    → after_slash table (whole ++ 32 ∷ more) at
     ≡ Accept (Switch position (code_at table position)) (length whole + 2) (at + (length whole + 1))
 unfolding is_word
 slash_takes table whole more at position entry plain =
     let words = entry.words in
-    let behind : prefix_len is_word (32 ∷ more) ≡ 0 = refl in
+    let after : prefix_len is_word (32 ∷ more) ≡ 0 = refl in
     let run : prefix_len is_word (whole ++ 32 ∷ more) ≡ length whole =
     (let both = prefix_len-append is_word whole (32 ∷ more) in grind (arith, nat_tests)) in
     let other : (length whole == length (whole ++ 32 ∷ more)) ≡ false =
@@ -183,10 +183,10 @@ pub switch_takes : (table : List Entry) (atom bytes more : List ℕ) (at next : 
 switch_takes table [] bytes more at next none wants is = cc
 switch_takes table (byte ∷ atom) bytes more at next none wants is = by (byte == 47) refl wants is
   where
-    by : (test : Bool) → (byte == 47) ≡ test → (if test then behind_slash table atom at else Refuse NotSwitch 1) ≡ More
+    by : (test : Bool) → (byte == 47) ≡ test → (if test then after_slash table atom at else Refuse NotSwitch 1) ≡ More
         → (if test then keyword_outcome true table atom (look table atom) else Nothing) ≡ Whole bytes next
         → (position : ℕ) × (entry_next table position ≡ next)
-        × ((if byte == 47 then behind_slash table (atom ++ (bytes ++ 32 ∷ more)) at else Refuse NotSwitch 1)
+        × ((if byte == 47 then after_slash table (atom ++ (bytes ++ 32 ∷ more)) at else Refuse NotSwitch 1)
         ≡ Accept (Switch position (code_at table position)) (length (byte ∷ atom ++ bytes) + 1) (at + length (byte ∷ atom ++ bytes)))
     by false slash wants is = cc
     by true slash wants is =

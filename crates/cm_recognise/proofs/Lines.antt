@@ -10,7 +10,7 @@ use Rattle.std.proofs.lemmas.List.Elements.{All-drop}
 use Rattle.cm_lists.proofs.Bools.{cond_each}
 use Rattle.cm_text.specs.Bytes.{is_shown}
 use Rattle.cm_text.specs.Case.{begins_with}
-use Rattle.cm_text.specs.Shown.{shown_byte}
+use Rattle.cm_text.specs.ScreenBytes.{shown_byte}
 use Rattle.cm_text.specs.Text.{IsLine}
 use Rattle.cm_text.specs.declared.text.TheConstants.{LINE_LIMIT}
 use Rattle.cm_tables.specs.declared.entry.Entry.{Entry}
@@ -43,8 +43,8 @@ use Rattle.cm_recognise.specs.declared.insertion.Mode.{Mode}
 use Rattle.cm_recognise.specs.declared.insertion.Mode.TheVariants as modes
 use Rattle.cm_recognise.specs.declared.outcome.Outcome.{Outcome}
 use Rattle.cm_recognise.specs.declared.outcome.Outcome.TheVariants.{Nothing, Part, Piece, Whole}
-use Rattle.cm_recognise.specs.Insertion.{asked, at_block, behind, block_put, default_put, first_put, fitted, guide_behind, guide_of, insertion, is_asked, or_put, put_in, bell_only}
-use Rattle.cm_recognise.specs.Found.{missing}
+use Rattle.cm_recognise.specs.Insertion.{asked, at_block, after, block_put, default_put, first_put, fitted, guide_after, guide_of, insertion, is_asked, or_put, put_in, bell_only}
+use Rattle.cm_recognise.specs.Candidates.{missing}
 use Rattle.cm_recognise.specs.Outcome.{by_function, entry_outcome, guide, hook_outcome, keyword_outcome, outcome, phrase_outcome, plain_outcome, switch_outcome}
 use Rattle.cm_recognise.proofs.ShownBytes.{IsShown, directory_outcome_shown, file_shown, user_shown}
 use Rattle.cm_recognise.proofs.Texts.{AreKeywords, AreShown, AreTyped, common_shown, keywords_of, name_shown, phrase_shown, screen_of_shown, shown_append, shown_drop, table_none, test_of_shown, typed_of_shown, line_append, text_at_shown, line_of_shown}
@@ -133,18 +133,18 @@ outcome_shown s mode block atom at named tables lawful has short =
     function_shown s mode block.function block.flags block.next atom _ named tables lawful has short
     (plain_shown block.next (trial s block.function block.flags (atom ++ 32 ∷ []) at))
 
--- what stands behind a field that is whole
-guide_behind_shown : (function : Function) → has_phrase function ≡ true → AreShown (guide_behind function)
-guide_behind_shown (Noise text) has = shown_append (guide text) (32 ∷ []) (guide_shown text (noise_shown text has)) (refl, tt)
-guide_behind_shown function has = tt
+-- what stands after a field that is whole
+guide_after_shown : (function : Function) → has_phrase function ≡ true → AreShown (guide_after function)
+guide_after_shown (Noise text) has = shown_append (guide text) (32 ∷ []) (guide_shown text (noise_shown text has)) (refl, tt)
+guide_after_shown function has = tt
 
 first_guide_shown : (graph : Graph) (blocks : List Block) → All (IsWellBlock graph) blocks
-    → AreShown (option_map_or (λ (block : Block). guide_behind block.function) (slice_get blocks 0) [])
+    → AreShown (option_map_or (λ (block : Block). guide_after block.function) (slice_get blocks 0) [])
 first_guide_shown graph [] well = tt
-first_guide_shown graph (block ∷ more) well = guide_behind_shown block.function (well 0 block (omega arith)).phrase
+first_guide_shown graph (block ∷ more) well = guide_after_shown block.function (well 0 block (omega arith)).phrase
 
-pub behind_shown : (graph : Graph) (next : ℕ) → grammar_fault graph ≡ None → AreShown (behind graph next)
-behind_shown graph next none = (refl, by (slice_get graph.nodes next) refl)
+pub after_shown : (graph : Graph) (next : ℕ) → grammar_fault graph ≡ None → AreShown (after graph next)
+after_shown graph next none = (refl, by (slice_get graph.nodes next) refl)
   where
     by : (found : Option Node) → slice_get graph.nodes next ≡ found → AreShown (guide_of found)
     by None is = tt
@@ -159,7 +159,7 @@ put_in_shown : (graph : Graph) (outcome : Outcome) → grammar_fault graph ≡ N
 put_in_shown graph Nothing none all = tt
 put_in_shown graph (Part bytes) none all = cond_each PutShown (length bytes == 0) None _ tt all
 put_in_shown graph (Piece bytes) none all = all
-put_in_shown graph (Whole bytes next) none all = shown_append bytes (behind graph next) all (behind_shown graph next none)
+put_in_shown graph (Whole bytes next) none all = shown_append bytes (after graph next) all (after_shown graph next none)
 
 or_put_shown : (first later : Option Insertion) → PutShown first → PutShown later → PutShown (or_put first later)
 or_put_shown None later here there = there

@@ -1,4 +1,4 @@
--- A function that takes what is typed and a space takes it whole, and however the text goes on behind the space.
+-- A function that takes what is typed and a space takes it whole, and however the text goes on after the space.
 use Rattle.std.proofs.Common.{◌≡◌, ℕ, ◌+◌, Bool, true, false, ◌==◌, ◌&&◌, nat_lt, nat_le, if◌then◌else◌, List, [], ◌∷◌, ◌++◌, length, take, Option, Some, None, Result, Ok, Err, refl, arith, length-append}
 use Rattle.std.specs.Char.{is_ascii_digit}
 use Rattle.std.specs.List.{list_all, prefix_len}
@@ -77,7 +77,7 @@ pub run_whole : (is_part : ℕ → Bool) (decide : List ℕ → Result Value Cod
     → prefix_len is_part whole ≡ length whole → is_part byte ≡ false
     → by_run is_part decide (whole ++ byte ∷ more) at ≡ said at (length whole) (length whole + 1) (decide whole)
 run_whole is_part decide whole byte more at all outside =
-    let behind : prefix_len is_part (byte ∷ more) ≡ 0 = rw outside refl in
+    let after : prefix_len is_part (byte ∷ more) ≡ 0 = rw outside refl in
     let run : prefix_len is_part (whole ++ byte ∷ more) ≡ length whole =
     (let both = prefix_len-append is_part whole (byte ∷ more) in grind (arith, nat_tests)) in
     let other : (length whole == length (whole ++ byte ∷ more)) ≡ false =

@@ -12,7 +12,7 @@ use Rattle.cm_text.specs.Case.{equals}
 use Rattle.cm_files.specs.declared.row.FileRow.{FileRow}
 use Rattle.cm_files.specs.Catalogue.{Catalogue, IsCatalogue, is_row, is_upper_name, rows_of}
 use Rattle.cm_files.specs.Selection.{agree}
-use Rattle.cm_recognise.specs.Found.{generation_like, highest}
+use Rattle.cm_recognise.specs.Candidates.{generation_like, highest}
 use Rattle.cm_recognise.proofs.Sources.{Comes, highest_comes}
 use Rattle.cm_recognise.proofs.LetterCase.{upper_names}
 

@@ -27,8 +27,8 @@ use Rattle.cm_recognise.specs.declared.insertion.Mode.{Mode}
 use Rattle.cm_recognise.specs.declared.insertion.Mode.TheVariants as modes
 use Rattle.cm_recognise.specs.declared.outcome.Outcome.{Outcome}
 use Rattle.cm_recognise.specs.declared.outcome.Outcome.TheVariants.{Nothing, Part, Piece, Whole}
-use Rattle.cm_recognise.specs.FileOutcome.{as_piece, behind_kind, behind_name, prefix_completion, by_kind, completion_in_directory, directory_completion, by_spec, completed, directory_outcome, file_outcome, generation_step, kind_step, meant, name_step, named_directory, opened, user_outcome}
-use Rattle.cm_recognise.specs.Found.{directory_like, found_directories, found_kinds, found_names, found_users, gather, highest, kind_like, missing, name_like, user_like, with_text}
+use Rattle.cm_recognise.specs.FileOutcome.{as_piece, after_kind, after_name, prefix_completion, by_kind, completion_in_directory, directory_completion, by_spec, completed, directory_outcome, file_outcome, generation_step, kind_step, meant, name_step, named_directory, opened, user_outcome}
+use Rattle.cm_recognise.specs.Candidates.{directory_like, found_directories, found_kinds, found_names, found_users, gather, highest, kind_like, missing, name_like, user_like, with_text}
 use Rattle.cm_recognise.proofs.Completions.{listed_of}
 use Rattle.cm_recognise.proofs.LetterCase.{directory_name}
 use Rattle.cm_recognise.proofs.Rows.{highest_row, row_form, rows_form}
@@ -182,7 +182,7 @@ kind_shown c is_catalogue request directory gathered name typed (One kind) all s
     more : AreShown (gathered ++ (missing kind typed ++ 46 ∷ []))
     more = shown_append gathered (missing kind typed ++ 46 ∷ []) all (shown_append (missing kind typed) (46 ∷ []) (shown_drop (length typed) kind some) point)
 
-    by : (mode : Mode) → IsShown (behind_kind mode request (rows_of c directory) (gathered ++ (missing kind typed ++ 46 ∷ [])) name kind)
+    by : (mode : Mode) → IsShown (after_kind mode request (rows_of c directory) (gathered ++ (missing kind typed ++ 46 ∷ [])) name kind)
     by modes.Part = more
     by modes.Escape = generation_shown c is_catalogue request directory name kind (gathered ++ (missing kind typed ++ 46 ∷ [])) (Part (gathered ++ (missing kind typed ++ 46 ∷ []))) more more
 
@@ -195,7 +195,7 @@ name_step_shown c is_catalogue request directory typed (One name) some = by requ
     more : AreShown (missing name typed ++ 46 ∷ [])
     more = shown_append (missing name typed) (46 ∷ []) (shown_drop (length typed) name some) point
 
-    by : (mode : Mode) → IsShown (behind_name mode request (rows_of c directory) (missing name typed ++ 46 ∷ []) name)
+    by : (mode : Mode) → IsShown (after_name mode request (rows_of c directory) (missing name typed ++ 46 ∷ []) name)
     by modes.Part = more
     by modes.Escape =
         kind_shown c is_catalogue request directory (missing name typed ++ 46 ∷ []) name [] (found_kinds (rows_of c directory) request.flags.deleted name [])

@@ -7,7 +7,7 @@ use Rattle.std.proofs.lemmas.Bool.{and_parts, or_left, or_right}
 use Rattle.cm_lists.proofs.Numbers.{cases_max}
 use Rattle.cm_tables.specs.Common.{shared}
 use Rattle.cm_recognise.specs.declared.found.Found.TheVariants.{Nobody, One, Several}
-use Rattle.cm_recognise.specs.Found.{gather, greater, with_text}
+use Rattle.cm_recognise.specs.Candidates.{gather, greater, with_text}
 
 -- an element of a list that gives this: it passes what all of the list pass, and what it passes some of the list does
 pub record Comes (X Y : Type 0) (f : X → Option Y) (xs : List X) (y : Y) : Type 0 where

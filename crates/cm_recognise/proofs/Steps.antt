@@ -11,8 +11,8 @@ use Rattle.cm_recognise.specs.declared.insertion.Mode.{Mode}
 use Rattle.cm_recognise.specs.declared.insertion.Mode.TheVariants as modes
 use Rattle.cm_recognise.specs.declared.outcome.Outcome.{Outcome}
 use Rattle.cm_recognise.specs.declared.outcome.Outcome.TheVariants.{Nothing, Part, Piece, Whole}
-use Rattle.cm_recognise.specs.FileOutcome.{as_piece, behind_kind, behind_name, generation_step, kind_step, name_step}
-use Rattle.cm_recognise.specs.Found.{found_kinds, found_names, highest, kind_like, missing, name_like}
+use Rattle.cm_recognise.specs.FileOutcome.{after_kind, after_name, as_piece, generation_step, kind_step, name_step}
+use Rattle.cm_recognise.specs.Candidates.{found_kinds, found_names, highest, kind_like, missing, name_like}
 use Rattle.cm_recognise.proofs.Sources.{found_comes}
 use Rattle.cm_recognise.proofs.Completions.{listed_of}
 use Rattle.cm_recognise.proofs.LetterCase.{completed_lower}
@@ -55,7 +55,7 @@ kinded_of request rows gathered name typed bytes after (One kind) is = by reques
     either (inl never) = cc
     either (inr numbered) = record { kind = kind; found_is = refl; numbered = numbered }
 
-    by : (mode : Mode) → behind_kind mode request rows whole name kind ≡ Whole bytes after
+    by : (mode : Mode) → after_kind mode request rows whole name kind ≡ Whole bytes after
         → Kinded request rows gathered name typed bytes after (One kind)
     by modes.Part is = cc
     by modes.Escape is = either (numbered_of request whole bytes after (Part whole) (highest rows request.flags.deleted name kind) is)
@@ -71,7 +71,7 @@ called_of request rows typed bytes after Nobody is = cc
 called_of request rows typed bytes after (Several front) is = cc
 called_of request rows typed bytes after (One name) is = by request.mode is
   where
-    by : (mode : Mode) → behind_name mode request rows (missing name typed ++ 46 ∷ []) name ≡ Whole bytes after
+    by : (mode : Mode) → after_name mode request rows (missing name typed ++ 46 ∷ []) name ≡ Whole bytes after
         → Called request rows typed bytes after (One name)
     by modes.Part is = cc
     by modes.Escape is =

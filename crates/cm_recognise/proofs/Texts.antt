@@ -8,7 +8,7 @@ use Rattle.cm_lists.proofs.Bools.{cond_each}
 use Rattle.cm_lists.proofs.Quantifiers.{AllByRecursion-append, AllByRecursion-drop}
 use Rattle.cm_text.specs.Bytes.{is_line_byte, is_name, is_shown, is_shown_byte, is_text, is_word}
 use Rattle.cm_text.specs.Case.{begins_with}
-use Rattle.cm_text.specs.Shown.{join_shown, shown_byte}
+use Rattle.cm_text.specs.ScreenBytes.{join_shown, shown_byte}
 use Rattle.cm_text.specs.declared.text.TheConstants.{JOIN}
 use Rattle.cm_text.proofs.LineBytes.{texts_in_line}
 use Rattle.cm_tables.specs.declared.entry.Entry.{Entry}

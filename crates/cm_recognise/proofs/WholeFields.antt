@@ -19,7 +19,7 @@ use Rattle.cm_fields.specs.declared.value.FileKind.TheVariants.{In, Out, Any}
 use Rattle.cm_fields.specs.declared.value.Value.{Value}
 use Rattle.cm_fields.specs.declared.value.Value.TheVariants as values
 use Rattle.cm_fields.specs.Local.{Stays}
-use Rattle.cm_fields.specs.Passed.{BeginsOther}
+use Rattle.cm_fields.specs.BeforeField.{BeginsOther}
 use Rattle.cm_fields.specs.Run.{number_of, word_of}
 use Rattle.cm_files.specs.declared.flags.Flags.{Flags}
 use Rattle.cm_files.specs.Catalogue.{Catalogue, IsCatalogue}
@@ -47,7 +47,7 @@ use Rattle.cm_recognise.specs.declared.insertion.Mode.{Mode}
 use Rattle.cm_recognise.specs.declared.outcome.Outcome.{Outcome}
 use Rattle.cm_recognise.specs.declared.outcome.Outcome.TheVariants.{Nothing, Whole}
 use Rattle.cm_recognise.specs.FileOutcome.{directory_outcome, file_outcome}
-use Rattle.cm_recognise.specs.Insertion.{behind, guide_of}
+use Rattle.cm_recognise.specs.Insertion.{after, guide_of}
 use Rattle.cm_recognise.specs.Outcome.{by_function, guide, hook_outcome, outcome, plain_outcome}
 use Rattle.cm_recognise.specs.Sound.{HasDevice, TakesField, Waits}
 use Rattle.cm_recognise.proofs.Directories.{directory_sound, user_begins, user_sound}
@@ -55,12 +55,12 @@ use Rattle.cm_recognise.proofs.Files.{file_sound}
 use Rattle.cm_recognise.proofs.Continuations.{chain_goes_on}
 use Rattle.cm_recognise.proofs.Guides.{noise_bytes, noise_takes, phrase_completes, token_takes}
 use Rattle.cm_recognise.proofs.Keywords.{key_begins, key_takes, keyword_completes, switch_takes}
-use Rattle.cm_recognise.proofs.Lines.{behind_shown, outcome_shown}
+use Rattle.cm_recognise.proofs.Lines.{after_shown, outcome_shown}
 use Rattle.cm_recognise.proofs.Plains.{EndsAt, IsOwn, comma_ends, confirm_ends, date_ends, date_of_nothing, file_ends, hook_ends, number_ends, quoted_closes, run_wants, run_whole, space_no_name, text_ends, word_ends}
 use Rattle.cm_recognise.proofs.ShownBytes.{IsShown}
 use Rattle.cm_recognise.proofs.Texts.{shown_append, table_none, line_of_shown}
 
--- on what is typed, completed, and on a space and more behind it, the function takes a field that ends with the
+-- on what is typed, completed, and on a space and more after it, the function takes a field that ends with the
 -- completion and leads on
 pub record TakesWhole (s : Setting) (block : Block) (atom bytes more : List ℕ) (at next : ℕ) : Type 0 where
   pub value : Value
@@ -301,7 +301,7 @@ pub whole_is_taken : (s : Setting) → grammar_fault s.graph ≡ None → IsCata
     → Waits s number b block line at start → HasDevice s block.function (drop start line) → (mode : Mode)
     → (bytes : List ℕ) (next : ℕ) → outcome s mode block (drop start line) start ≡ Whole bytes next
     → TakesField number b start (length line + length bytes) next
-    (chain_at s number (line ++ (bytes ++ behind s.graph next)) at).chain
+    (chain_at s number (line ++ (bytes ++ after s.graph next)) at).chain
 unfolding outcome
 whole_is_taken s none named tables lawful line is_line number b at start block waits device mode bytes next is =
     let has = waiting_phrase s number b block line at start none waits in
@@ -310,9 +310,9 @@ whole_is_taken s none named tables lawful line is_line number b at start block w
     let size = length-drop start line in
     let short : length (drop start line) ≤ LINE_LIMIT = omega arith in
     let shown = subst IsShown is (outcome_shown s mode block (drop start line) start named tables lawful has short) in
-    let more = behind s.graph next in
+    let more = after s.graph next in
     let goes = chain_goes_on s number b block line (bytes ++ more) at start is_line.plain
-    (line_of_shown (bytes ++ more) (shown_append bytes more shown (behind_shown s.graph next none))) waits in
+    (line_of_shown (bytes ++ more) (shown_append bytes more shown (after_shown s.graph next none))) waits in
     let within = goes.within in
     let taken = function_takes s mode block block.function (drop start line) bytes (guide_of (slice_get s.graph.nodes next)) start next
     named device flags tables lawful has short goes.wants is in

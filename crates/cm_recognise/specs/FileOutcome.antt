@@ -18,7 +18,7 @@ use Rattle.cm_recognise.specs.declared.insertion.Mode.{Mode}
 use Rattle.cm_recognise.specs.declared.insertion.Mode.TheVariants as modes
 use Rattle.cm_recognise.specs.declared.outcome.Outcome.{Outcome}
 use Rattle.cm_recognise.specs.declared.outcome.Outcome.TheVariants.{Nothing, Part, Piece, Whole}
-use Rattle.cm_recognise.specs.Found.{found_directories, found_kinds, found_names, found_users, highest, missing}
+use Rattle.cm_recognise.specs.Candidates.{found_directories, found_kinds, found_names, found_users, highest, missing}
 
 -- one goes on to its end and what closes it, several as far as they go on alike
 abbrev pub completed : ℕ → List ℕ → List ℕ → Found → Outcome
@@ -30,7 +30,7 @@ completed next typed close (Several front) = Part (missing front typed)
 unfoldable pub user_outcome : Catalogue → ℕ → List ℕ → Outcome
 user_outcome c next atom = completed next atom [] (found_users c atom)
 
--- what stands behind an opening angle bracket that is not closed
+-- what stands after an opening angle bracket that is not closed
 abbrev pub unclosed : List ℕ → Option (List ℕ)
 unclosed [] = None
 unclosed (byte ∷ typed) = if byte == 60 && not (list_any (λ other. other == 62) typed) then Some typed else None
@@ -57,37 +57,37 @@ abbrev pub generation_outcome : Request → List ℕ → ℕ → Outcome
 generation_outcome request gathered generation =
     Whole (gathered ++ (if request.flags.all_generations then 42 ∷ [] else decimal generation)) request.next
 
--- behind the second point: the highest generation there is, or this outcome
+-- after the second point: the highest generation there is, or this outcome
 abbrev pub generation_step : Request → List ℕ → Outcome → Option ℕ → Outcome
 generation_step request gathered other None = other
 generation_step request gathered other (Some generation) = generation_outcome request gathered generation
 
--- a type and the point behind it: ESC goes on with the generation
-abbrev pub behind_kind : Mode → Request → List FileRow → List ℕ → List ℕ → List ℕ → Outcome
-behind_kind modes.Part request rows gathered name kind = Piece gathered
-behind_kind modes.Escape request rows gathered name kind =
+-- a type and the point after it: ESC goes on with the generation
+abbrev pub after_kind : Mode → Request → List FileRow → List ℕ → List ℕ → List ℕ → Outcome
+after_kind modes.Part request rows gathered name kind = Piece gathered
+after_kind modes.Escape request rows gathered name kind =
     generation_step request gathered (Part gathered) (highest rows request.flags.deleted name kind)
 
--- behind the first point: one type goes on to its point, several as far as they go on alike
+-- after the first point: one type goes on to its point, several as far as they go on alike
 abbrev pub kind_step : Request → List FileRow → List ℕ → List ℕ → List ℕ → Found → Outcome
 kind_step request rows gathered name typed Nobody = Part gathered
 kind_step request rows gathered name typed (One kind) =
-    behind_kind request.mode request rows (gathered ++ (missing kind typed ++ 46 ∷ [])) name kind
+    after_kind request.mode request rows (gathered ++ (missing kind typed ++ 46 ∷ [])) name kind
 kind_step request rows gathered name typed (Several front) = Part (gathered ++ missing front typed)
 
--- a name and the point behind it: ESC goes on with the type
-abbrev pub behind_name : Mode → Request → List FileRow → List ℕ → List ℕ → Outcome
-behind_name modes.Part request rows gathered name = Piece gathered
-behind_name modes.Escape request rows gathered name =
+-- a name and the point after it: ESC goes on with the type
+abbrev pub after_name : Mode → Request → List FileRow → List ℕ → List ℕ → Outcome
+after_name modes.Part request rows gathered name = Piece gathered
+after_name modes.Escape request rows gathered name =
     kind_step request rows gathered name [] (found_kinds rows request.flags.deleted name [])
 
 -- before the first point: one name goes on to its point, several as far as they go on alike
 abbrev pub name_step : Request → List FileRow → List ℕ → Found → Outcome
 name_step request rows typed Nobody = Nothing
-name_step request rows typed (One name) = behind_name request.mode request rows (missing name typed ++ 46 ∷ []) name
+name_step request rows typed (One name) = after_name request.mode request rows (missing name typed ++ 46 ∷ []) name
 name_step request rows typed (Several front) = Part (missing front typed)
 
--- by the type that is typed: none, one with which the atom ends, one behind which a point ends it, and one behind which
+-- by the type that is typed: none, one with which the atom ends, one after which a point ends it, and one after which
 -- a generation is typed
 abbrev pub by_kind : Request → List FileRow → List ℕ → List ℕ → Outcome → Option Span → Outcome
 by_kind request rows atom name plain None = name_step request rows name (found_names rows request.flags.deleted name)
@@ -115,7 +115,7 @@ abbrev pub by_spec : Catalogue → Request → List ℕ → Outcome → Result S
 by_spec c request atom plain (Err fault) = Nothing
 by_spec c request atom plain (Ok spec) = completion_in_directory c request atom plain spec (meant c request atom spec)
 
--- behind which a file goes on
+-- after which a file goes on
 abbrev pub as_piece : Outcome → Outcome
 as_piece Nothing = Nothing
 as_piece (Part bytes) = Part bytes

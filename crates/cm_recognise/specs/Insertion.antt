@@ -22,25 +22,25 @@ abbrev pub bell_only : Insertion
 bell_only = record { bytes = []; bell = true }
 
 -- the guide word that a block reads, as it is typed, and a space
-abbrev pub guide_behind : Function → List ℕ
-guide_behind (Noise text) = guide text ++ 32 ∷ []
-guide_behind function = []
+abbrev pub guide_after : Function → List ℕ
+guide_after (Noise text) = guide text ++ 32 ∷ []
+guide_after function = []
 
 -- the guide word with which a node begins
 abbrev pub guide_of : Option Node → List ℕ
 guide_of None = []
-guide_of (Some node) = option_map_or (λ (block : Block). guide_behind block.function) (slice_get node.chain 0) []
+guide_of (Some node) = option_map_or (λ (block : Block). guide_after block.function) (slice_get node.chain 0) []
 
--- what stands behind a field that is whole: a space, and the guide word with which the next node begins
-abbrev pub behind : Graph → ℕ → List ℕ
-behind graph next = 32 ∷ guide_of (slice_get graph.nodes next)
+-- what stands after a field that is whole: a space, and the guide word with which the next node begins
+abbrev pub after : Graph → ℕ → List ℕ
+after graph next = 32 ∷ guide_of (slice_get graph.nodes next)
 
 -- what one outcome puts in; what several share rings, and where they share nothing the next block is asked
 abbrev pub put_in : Graph → Outcome → Option Insertion
 put_in graph Nothing = None
 put_in graph (Part bytes) = if length bytes == 0 then None else Some (record { bytes = bytes; bell = true })
 put_in graph (Piece bytes) = Some (record { bytes = bytes; bell = false })
-put_in graph (Whole bytes next) = Some (record { bytes = bytes ++ behind graph next; bell = false })
+put_in graph (Whole bytes next) = Some (record { bytes = bytes ++ after graph next; bell = false })
 
 -- the first of two that puts anything in
 abbrev pub or_put : Option Insertion → Option Insertion → Option Insertion
@@ -88,7 +88,7 @@ at_block s mode line at None found = None
 at_block s mode line at (Some block) None = None
 at_block s mode line at (Some block) (Some node) = asked s mode node block (drop at line) at
 
--- what is put into a line with room whose parse ends so; a place that is none of the line gives nothing
+-- [completion] what is put into a line with room whose parse ends so; a place that is none of the line gives nothing
 unfoldable pub insertion : Setting → Ending → List ℕ → Mode → Insertion
 insertion s (ending.Open place) line mode =
     if nat_lt (length line) LINE_LIMIT && nat_le place.at (length line)

@@ -1,5 +1,5 @@
+pub mod Candidates
 pub mod FileOutcome
-pub mod Found
 pub mod Insertion
 pub mod Outcome
 pub mod Sound

@@ -23,13 +23,13 @@ use Rattle.cm_recognise.specs.declared.insertion.Mode.{Mode}
 use Rattle.cm_recognise.specs.declared.outcome.Outcome.{Outcome}
 use Rattle.cm_recognise.specs.declared.outcome.Outcome.TheVariants.{Nothing, Part, Piece, Whole}
 use Rattle.cm_recognise.specs.FileOutcome.{directory_outcome, file_outcome, user_outcome}
-use Rattle.cm_recognise.specs.Found.{missing}
+use Rattle.cm_recognise.specs.Candidates.{missing}
 
 -- the text of the entry at a position
 abbrev pub text_at : List Entry → ℕ → List ℕ
 text_at table position = option_map_or (λ (entry : Entry). entry.text) (slice_get table position) []
 
--- the rest of the entry's text, and behind a switch that a value follows its colon
+-- the rest of the entry's text, and after a switch that a value follows its colon
 abbrev pub entry_outcome : Bool → List Entry → List ℕ → ℕ → Outcome
 entry_outcome colon table atom position =
     if colon then Piece (missing (text_at table position) atom ++ 58 ∷ [])
@@ -46,7 +46,7 @@ keyword_outcome switch table atom (looks.Abbrev position) =
 keyword_outcome switch table atom (looks.Exact position) =
     entry_outcome (switch && has_colon table position) table atom position
 
--- behind the slash a switch goes on as a keyword does
+-- after the slash a switch goes on as a keyword does
 abbrev pub switch_outcome : List Entry → List ℕ → Outcome
 switch_outcome table [] = Nothing
 switch_outcome table (byte ∷ atom) =

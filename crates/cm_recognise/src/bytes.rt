@@ -47,7 +47,7 @@ impl Bytes {
         self.items.as_slice()
     }
 
-    // Puts more bytes behind them.
+    // Puts more bytes after them.
     pub(crate) fn append(&mut self, more: &[u8])
         requires { length self.old + length more.now ≤ LINE_LIMIT }
         ensures { self.new ≡ self.old ++ more.now }

@@ -7,8 +7,8 @@ ghost use Rattle.std.specs.Option.{option_copied};
 ghost use Rattle.cm_files.specs.Catalogue.{rows_of};
 ghost use Rattle.cm_files.specs.Pattern.{is_wild};
 ghost use Rattle.cm_files.specs.Spec.{IsPartOf, IsSpecOf, device_read, part_or_nothing, read_spec, stands_at};
-ghost use Rattle.cm_recognise.specs.FileOutcome.{as_piece, behind_kind, behind_name, by_kind, by_spec, completed, directory_outcome, file_outcome, generation_outcome, kind_step, meant, name_step, named_directory, opened, unclosed, user_outcome};
-ghost use Rattle.cm_recognise.specs.Found.{IsFound, found_kinds, found_names};
+ghost use Rattle.cm_recognise.specs.FileOutcome.{after_kind, after_name, as_piece, by_kind, by_spec, completed, directory_outcome, file_outcome, generation_outcome, kind_step, meant, name_step, named_directory, opened, unclosed, user_outcome};
+ghost use Rattle.cm_recognise.specs.Candidates.{IsFound, found_kinds, found_names};
 ghost use Rattle.cm_recognise.specs.Outcome.{IsShort};
 
 use crate::digits::decimal;
@@ -28,7 +28,7 @@ pub(crate) struct Request {
     pub next: u16,
 }
 
-// What is found goes on behind what is typed, and where it is one to what closes it.
+// What is found goes on after what is typed, and where it is one to what closes it.
 fn completed(found: Found, typed: &[u8], close: &[u8], next: u16) -> Outcome
     requires found { IsFound found }
     requires close { length close.now ≤ 1 }
@@ -95,7 +95,7 @@ fn is_closed(text: &[u8]) -> bool
     text.iter().any(|byte| *byte == b'>')
 }
 
-// What stands behind an opening angle bracket that is not closed.
+// What stands after an opening angle bracket that is not closed.
 fn unclosed(text: &[u8]) -> Option<&[u8]>
     ensures value { option_copied result ≡ unclosed text.now }
 {
@@ -121,7 +121,7 @@ fn named_directory<N: Names>(names: &N, next: u16, typed: &[u8]) -> Outcome
     completed(found_directories(names, typed), typed, b">", next)
 }
 
-/// How a directory goes on (.CMDIR): where its name is begun behind an angle bracket as a user does, and to the closing
+/// How a directory goes on (.CMDIR): where its name is begun after an angle bracket as a user does, and to the closing
 /// bracket; else as `plain` says, and so where the block may name a new one.
 #[tactic(auto, unfolding(crate::specs::FileOutcome::directory_outcome))]
 pub(crate) fn directory_outcome<N: Names>(
@@ -163,8 +163,8 @@ fn generation_outcome(request: Request, gathered: Bytes, generation: u32) -> Out
     }
 }
 
-// Behind a type and its point ESC goes on with the generation.
-fn behind_kind<N: Names>(
+// After a type and its point ESC goes on with the generation.
+fn after_kind<N: Names>(
     request: Request,
     names: &N,
     directory: u16,
@@ -174,7 +174,7 @@ fn behind_kind<N: Names>(
 ) -> Outcome
     requires directory { directory < length (N.catalogue names.now).directories }
     requires gathered { length gathered ≤ 80 }
-    ensures value { result ≡ behind_kind request.mode request (rows_of (N.catalogue names.now) directory) gathered
+    ensures value { result ≡ after_kind request.mode request (rows_of (N.catalogue names.now) directory) gathered
         name.now kind.now }
     ensures short { IsShort TAIL_LIMIT result }
 {
@@ -187,7 +187,7 @@ fn behind_kind<N: Names>(
     }
 }
 
-// Behind the first point: the types of this name that begin with what is typed.
+// After the first point: the types of this name that begin with what is typed.
 fn kind_step<N: Names>(
     request: Request,
     names: &N,
@@ -210,7 +210,7 @@ fn kind_step<N: Names>(
             let mut rest = missing(kind.as_slice(), typed);
             rest.append(b".");
             bytes.append(rest.as_slice());
-            behind_kind(request, names, directory, bytes, name, kind.as_slice())
+            after_kind(request, names, directory, bytes, name, kind.as_slice())
         }
         Found::Several(front) => {
             bytes.append(missing(front.as_slice(), typed).as_slice());
@@ -219,8 +219,8 @@ fn kind_step<N: Names>(
     }
 }
 
-// Behind a name and its point ESC goes on with the type.
-fn behind_name<N: Names>(
+// After a name and its point ESC goes on with the type.
+fn after_name<N: Names>(
     request: Request,
     names: &N,
     directory: u16,
@@ -229,7 +229,7 @@ fn behind_name<N: Names>(
 ) -> Outcome
     requires directory { directory < length (N.catalogue names.now).directories }
     requires gathered { length gathered ≤ 40 }
-    ensures value { result ≡ behind_name request.mode request (rows_of (N.catalogue names.now) directory) gathered
+    ensures value { result ≡ after_name request.mode request (rows_of (N.catalogue names.now) directory) gathered
         name.now }
     ensures short { IsShort TAIL_LIMIT result }
 {
@@ -251,7 +251,7 @@ fn name_step<N: Names>(request: Request, names: &N, directory: u16, typed: &[u8]
         Found::One(name) => {
             let mut bytes = missing(name.as_slice(), typed);
             bytes.append(b".");
-            behind_name(request, names, directory, bytes, name.as_slice())
+            after_name(request, names, directory, bytes, name.as_slice())
         }
         Found::Several(front) => Outcome::Part(missing(front.as_slice(), typed)),
     }
@@ -333,7 +333,7 @@ fn by_spec<N: Names>(request: Request, names: &N, atom: &[u8], plain: Outcome) -
     }
 }
 
-// A file goes on behind its directory.
+// A file goes on after its directory.
 fn as_piece(outcome: Outcome) -> Outcome
     requires { IsShort TAIL_LIMIT outcome }
     ensures value { result ≡ as_piece outcome }

@@ -3,7 +3,7 @@ ghost use Rattle.std.specs.Prelude.{◌≡◌, ◌<◌, ◌≤◌, ◌==◌, Non
 ghost use Rattle.std.specs.List.{list_any};
 ghost use Rattle.cm_tables.specs.Common.{shared};
 ghost use Rattle.cm_files.specs.Catalogue.{rows_of};
-ghost use Rattle.cm_recognise.specs.Found.{IsFound, directory_like, found_directories, found_kinds, found_names, found_users, generation_like, greater, highest, kind_like, name_like, user_like, with_some, with_text};
+ghost use Rattle.cm_recognise.specs.Candidates.{IsFound, directory_like, found_directories, found_kinds, found_names, found_users, generation_like, greater, highest, kind_like, name_like, user_like, with_some, with_text};
 
 use crate::Bytes;
 use cm_files::Names;

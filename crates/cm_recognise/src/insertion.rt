@@ -6,7 +6,7 @@ ghost use Rattle.cm_text.specs.Text.{IsLine};
 ghost use Rattle.cm_files.specs.Catalogue.{IsCatalogue};
 ghost use Rattle.cm_blocks.specs.Setting.{setting};
 ghost use Rattle.cm_blocks.specs.Well.{IsWell, IsWellBlock};
-ghost use Rattle.cm_recognise.specs.Insertion.{asked, at_block, behind, block_put, default_put, first_put, fitted, guide_behind, insertion, is_asked, put_in, bell_only};
+ghost use Rattle.cm_recognise.specs.Insertion.{asked, at_block, after, block_put, default_put, first_put, fitted, guide_after, insertion, is_asked, put_in, bell_only};
 ghost use Rattle.cm_recognise.specs.Outcome.{IsShort};
 
 use crate::Bytes;
@@ -64,7 +64,7 @@ fn fitted(size: usize, put: Option<Insertion>) -> Insertion
 // Appends the guide word that a block reads, and a space.
 fn append_guide(function: &Function, bytes: &mut Bytes)
     requires { length bytes.old ≤ TAIL_LIMIT + 1 }
-    ensures { bytes.new ≡ bytes.old ++ guide_behind function.now }
+    ensures { bytes.new ≡ bytes.old ++ guide_after function.now }
 {
     if let Function::Noise(text) = function {
         bytes.append(guide(text).as_slice());
@@ -72,10 +72,10 @@ fn append_guide(function: &Function, bytes: &mut Bytes)
     }
 }
 
-// Appends what stands behind a field that is whole.
-fn append_behind(grammar: &Grammar, next: u16, bytes: &mut Bytes)
+// Appends what stands after a field that is whole.
+fn append_after(grammar: &Grammar, next: u16, bytes: &mut Bytes)
     requires { length bytes.old ≤ TAIL_LIMIT }
-    ensures { bytes.new ≡ bytes.old ++ behind grammar.now next }
+    ensures { bytes.new ≡ bytes.old ++ after grammar.now next }
 {
     bytes.append(b" ");
     if next < grammar.nodes() {
@@ -101,7 +101,7 @@ fn put_in(grammar: &Grammar, outcome: Outcome) -> Option<Insertion>
         }
         Outcome::Piece(bytes) => Some(Insertion { bytes, bell: false }),
         Outcome::Whole { mut bytes, next } => {
-            append_behind(grammar, next, &mut bytes);
+            append_after(grammar, next, &mut bytes);
             Some(Insertion { bytes, bell: false })
         }
     }
@@ -290,7 +290,7 @@ fn is_catalogue<N: Names>(names: &N)
 /// What ESC or control-F puts into a line whose parse ends so (COMND's recognition).
 ///
 /// Where the line is open at a field of which nothing is typed, ESC takes the default of its node. Else the blocks that
-/// wait are asked in order, and the first that can go on counts: with bytes that are whole, behind which a space
+/// wait are asked in order, and the first that can go on counts: with bytes that are whole, after which a space
 /// follows and the guide word of the next node; with the beginning that several ways share, which rings; or with a
 /// piece, as a switch up to its colon. Control-F asks the blocks that read files and directories alone, and completes
 /// a name or a type of a file up to its point. It rings, and nothing goes in, where no block can go on, where the line
@@ -304,6 +304,7 @@ pub fn complete<N: Names, R: Rules>(
     mode: Mode,
 ) -> Insertion
     requires line { IsLine line.now }
+    // [completion]
     ensures value { result
         ≡ insertion (setting grammar.now (N.catalogue names.now) (R.meanings rules.now)) ending line.now mode }
     // They may be typed, and with them it is a line again.

@@ -3,7 +3,7 @@ ghost use Rattle.std.specs.Prelude.{◌≡◌, ◌≢◌, ◌+◌, ◌≤◌, �
 ghost use Rattle.std.specs.Io.{StartsWith};
 ghost use Rattle.std.specs.List.{AllByRecursion, flat_map};
 ghost use Rattle.cm_text.specs.Bytes.{is_shown};
-ghost use Rattle.cm_text.specs.Shown.{shown_byte};
+ghost use Rattle.cm_text.specs.ScreenBytes.{shown_byte};
 ghost use Rattle.cm_text.specs.Text.{IsLine};
 ghost use Rattle.cm_text.specs.declared.text.TheConstants.{LINE_LIMIT};
 ghost use Rattle.cm_tables.specs.Common.{AllBeginWith};
@@ -20,13 +20,13 @@ ghost use Rattle.cm_recognise.specs.declared.found.Found.TheVariants.{Nobody, On
 ghost use Rattle.cm_recognise.specs.declared.outcome.Outcome.TheVariants.{Whole};
 ghost use Rattle.cm_recognise.specs.declared.insertion.Mode.{Mode};
 ghost use Rattle.cm_recognise.specs.declared.insertion.Mode.TheVariants as modes;
-ghost use Rattle.cm_recognise.specs.Found.{found_of};
-ghost use Rattle.cm_recognise.specs.Insertion.{behind, default_put, insertion, is_asked};
+ghost use Rattle.cm_recognise.specs.Candidates.{found_of};
+ghost use Rattle.cm_recognise.specs.Insertion.{after, default_put, insertion, is_asked};
 ghost use Rattle.cm_recognise.specs.Outcome.{outcome};
 ghost use Rattle.cm_recognise.specs.Sound.{HasDevice, TakesField, Waits};
 
 /// A completion that is whole is taken. Where a line waits at a block, and the block completes what is typed of its
-/// field as a whole, the line with these bytes, and with what stands behind a whole field, has from the same place on
+/// field as a whole, the line with these bytes, and with what stands after a whole field, has from the same place on
 /// a field of this node and block. It begins where it began, ends with the completion, and leads to the node that the
 /// completion names. A directory is completed whatever device is typed before it; it is taken where there is such a
 /// device.
@@ -36,19 +36,19 @@ pub fn a_whole_completion_is_taken()
         → Waits s number b block line at start → HasDevice s block.function (drop start line) → (mode : Mode)
         → (bytes : List ℕ) → (next : ℕ) → outcome s mode block (drop start line) start ≡ Whole bytes next
         → TakesField number b start (length line + length bytes) next
-        (chain_at s number (line ++ (bytes ++ behind s.graph next)) at).chain }
+        (chain_at s number (line ++ (bytes ++ after s.graph next)) at).chain }
 {}
 
-/// Such a completion is what the key puts in that asks the block, ESC or control-F, with what stands behind a whole
+/// Such a completion is what the key puts in that asks the block, ESC or control-F, with what stands after a whole
 /// field and no bell, where it fits into the line; ESC where no default stands for the field.
 pub fn a_whole_completion_is_put_in()
     ensures { (s : Setting) → (line : List ℕ) → IsLine line → (number b at start : ℕ) → (block : Block)
         → (waits : Waits s number b block line at start) → (mode : Mode) → is_asked mode block.function ≡ true
         → (mode ≡ modes.Escape → default_put (drop start line) waits.node.default ≡ None)
         → (bytes : List ℕ) → (next : ℕ) → outcome s mode block (drop start line) start ≡ Whole bytes next
-        → length line + length (bytes ++ behind s.graph next) ≤ LINE_LIMIT
+        → length line + length (bytes ++ after s.graph next) ≤ LINE_LIMIT
         → insertion s (ending.Open (record { node = number; block = Some b; at = start })) line mode
-        ≡ record { bytes = bytes ++ behind s.graph next; bell = false } }
+        ≡ record { bytes = bytes ++ after s.graph next; bell = false } }
 {}
 
 /// What a key puts in that completes, at any place of any line, is shown as it is: bytes from space to tilde, none of

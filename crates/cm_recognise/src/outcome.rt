@@ -7,7 +7,7 @@ ghost use Rattle.cm_blocks.specs.Keyword.{has_colon};
 ghost use Rattle.cm_blocks.specs.Setting.{setting};
 ghost use Rattle.cm_blocks.specs.Trial.{trial};
 ghost use Rattle.cm_blocks.specs.Well.{IsWellBlock};
-ghost use Rattle.cm_recognise.specs.Found.{missing};
+ghost use Rattle.cm_recognise.specs.Candidates.{missing};
 ghost use Rattle.cm_recognise.specs.Outcome.{IsShort, entry_outcome, guide, hook_outcome, keyword_outcome, outcome, phrase_outcome, plain_outcome, switch_outcome};
 
 use crate::file_outcome::{Request, directory_outcome, file_outcome, user_outcome};
@@ -20,7 +20,7 @@ use cm_hooks::{Rules, Tail};
 use cm_tables::{Look, Table};
 use cm_text::{LINE_LIMIT, Name, TEXT_LIMIT, begins_with};
 
-// The most bytes with which a field goes on: a name and a type of 39 bytes and a point behind each, and a generation
+// The most bytes with which a field goes on: a name and a type of 39 bytes and a point after each, and a generation
 // of 10.
 pub(crate) const TAIL_LIMIT: usize = 90;
 
@@ -31,7 +31,7 @@ pub enum Outcome {
     Nothing,
     /// With these bytes, or none, and then in several ways or in no certain one.
     Part(Bytes),
-    /// With these bytes, behind which it goes on by typing, as the value of a switch.
+    /// With these bytes, after which it goes on by typing, as the value of a switch.
     Piece(Bytes),
     /// With these bytes, and then it is whole.
     Whole {
@@ -42,7 +42,7 @@ pub enum Outcome {
     },
 }
 
-// What is missing behind an atom of a text that begins with it.
+// What is missing after an atom of a text that begins with it.
 pub(crate) fn missing(text: &[u8], atom: &[u8]) -> Bytes
     requires { length text.now ≤ TAIL_LIMIT }
     ensures value { result ≡ missing text.now atom.now }
@@ -67,7 +67,7 @@ pub(crate) fn guide(text: &Name) -> Bytes
     bytes
 }
 
-// The rest of the entry at a position, and behind a switch that a value follows its colon.
+// The rest of the entry at a position, and after a switch that a value follows its colon.
 fn entry_outcome(switch: bool, table: &Table, atom: &[u8], position: u16) -> Outcome
     requires { position < length table.now }
     ensures value { result
@@ -107,7 +107,7 @@ fn shared_outcome(table: &Table, atom: &[u8]) -> Outcome
     Outcome::Part(copied(table.common(atom).as_bytes()))
 }
 
-// How a keyword goes on, or a switch behind its slash.
+// How a keyword goes on, or a switch after its slash.
 fn keyword_outcome(switch: bool, table: &Table, atom: &[u8]) -> Outcome
     ensures value { result ≡ keyword_outcome switch table.now atom.now (look table.now atom.now) }
     ensures short { IsShort TAIL_LIMIT result }

@@ -1,4 +1,4 @@
--- Causes of calls that follow one another.
+-- [run-cause] Causes of calls that follow one another.
 use Rattle.std.specs.Prelude.{Bool, true, false, List, [], ◌∷◌, length, ◌<◌, ◌+◌}
 use Rattle.std.proofs.Common.{arith, ◌≡◌, ◌≤◌, ℕ, refl, ap, sym, subst, ◌∙◌}
 use Rattle.std.specs.Prelude.{Result, Ok, Err}
@@ -6,25 +6,25 @@ use Rattle.cm_lists.proofs.Pieces.{length_of_cons}
 use Rattle.cm_io.specs.Fault.{Rose, next_count}
 use Rattle.cm_run.specs.declared.stop.Stop.{Stop}
 use Rattle.cm_run.specs.declared.stop.Stop.TheVariants as stop
-use Rattle.cm_run.specs.Cause.{Counts, KeyCount, ObeyCause, OverCount, RunCause, StopCause, StrokeCause, counts}
+use Rattle.cm_run.specs.Cause.{Counts, KeyCount, KeystrokeCause, ObeyCause, OverCount, RunCause, StopCause, counts}
 
--- behind a call at which no count rose
+-- after a call at which no count rose
 pub obey_cause_on : (a b c : ℕ) (result : Result Unit Stop) → b ≡ a → ObeyCause b c result → ObeyCause a c result
 obey_cause_on a b c result stays cause = subst (λ n. ObeyCause n c result) stays cause
 
-pub stroke_run : (a b c : Counts) (result : Result Unit Stop) → b ≡ a → StrokeCause b c result → RunCause a c result
-unfolding StrokeCause RunCause
-stroke_run a b c (Ok value) stays cause = cause ∙ stays
-stroke_run a b c (Err stop.Screen) stays cause = subst (λ from. StopCause from c stop.Screen) stays cause
-stroke_run a b c (Err stop.Log) stays cause = subst (λ from. StopCause from c stop.Log) stays cause
-stroke_run a b c (Err stop.Memory) stays cause = cause ∙ stays
-stroke_run a b c (Err stop.Keys) stays cause = absurd cause
-stroke_run a b c (Err stop.Limit) stays cause = absurd cause
+pub keystroke_run : (a b c : Counts) (result : Result Unit Stop) → b ≡ a → KeystrokeCause b c result → RunCause a c result
+unfolding KeystrokeCause RunCause
+keystroke_run a b c (Ok value) stays cause = cause ∙ stays
+keystroke_run a b c (Err stop.Screen) stays cause = subst (λ from. StopCause from c stop.Screen) stays cause
+keystroke_run a b c (Err stop.Log) stays cause = subst (λ from. StopCause from c stop.Log) stays cause
+keystroke_run a b c (Err stop.Memory) stays cause = cause ∙ stays
+keystroke_run a b c (Err stop.Keys) stays cause = absurd cause
+keystroke_run a b c (Err stop.Limit) stays cause = absurd cause
 
--- acts behind an echo and a log line at which no count rose
+-- acts after an echo and a log line at which no count rose
 pub acts_cause : (keys screen screen' screen'' log log' : ℕ) (result : Result Unit Stop) → ObeyCause screen' screen'' result
-    → screen' ≡ screen → log' ≡ log → StrokeCause (counts screen log keys) (counts screen'' log' keys) result
-unfolding ObeyCause StrokeCause
+    → screen' ≡ screen → log' ≡ log → KeystrokeCause (counts screen log keys) (counts screen'' log' keys) result
+unfolding ObeyCause KeystrokeCause
 acts_cause keys screen screen' screen'' log log' (Ok value) cause shown put = let same : screen'' ≡ screen = cause ∙ shown in cc
 acts_cause keys screen screen' screen'' log log' (Err stop.Screen) cause shown put =
     (subst (λ n. Rose n screen'') shown cause, ap (λ n. counts screen'' n keys) put)
@@ -34,13 +34,13 @@ acts_cause keys screen screen' screen'' log log' (Err stop.Keys) cause shown put
 acts_cause keys screen screen' screen'' log log' (Err stop.Limit) cause shown put = absurd cause
 
 -- the screen failed at an echo
-pub echo_cause : (keys screen screen' log : ℕ) → Rose screen screen' → StrokeCause (counts screen log keys) (counts screen' log keys) (Err stop.Screen)
-unfolding StrokeCause
+pub echo_cause : (keys screen screen' log : ℕ) → Rose screen screen' → KeystrokeCause (counts screen log keys) (counts screen' log keys) (Err stop.Screen)
+unfolding KeystrokeCause
 echo_cause keys screen screen' log rose = (rose, refl)
 
--- the log failed behind one
-pub log_cause : (keys screen screen' log log' : ℕ) → Rose log log' → screen' ≡ screen → StrokeCause (counts screen log keys) (counts screen' log' keys) (Err stop.Log)
-unfolding StrokeCause
+-- the log failed after one
+pub log_cause : (keys screen screen' log log' : ℕ) → Rose log log' → screen' ≡ screen → KeystrokeCause (counts screen log keys) (counts screen' log' keys) (Err stop.Log)
+unfolding KeystrokeCause
 log_cause keys screen screen' log log' rose shown = (rose, ap (λ n. counts n log' keys) shown)
 
 -- no count rose in a run
@@ -92,8 +92,8 @@ pub count_limit : (limit before now turn : ℕ) (ended : Bool) → before ≡ no
 unfolding KeyCount
 count_limit limit before now turn ended taken most least is = (omega arith, is)
 
-within : (limit before now : ℕ) (ended : Bool) (why : Stop) (a b : Counts) → before ≤ now + limit → StrokeCause a b (Err why) → KeyCount limit before now ended (Err why)
-unfolding KeyCount StrokeCause
+within : (limit before now : ℕ) (ended : Bool) (why : Stop) (a b : Counts) → before ≤ now + limit → KeystrokeCause a b (Err why) → KeyCount limit before now ended (Err why)
+unfolding KeyCount KeystrokeCause
 within limit before now ended stop.Screen a b most cause = most
 within limit before now ended stop.Log a b most cause = most
 within limit before now ended stop.Memory a b most cause = most
@@ -102,7 +102,7 @@ within limit before now ended stop.Limit a b most cause = absurd cause
 
 -- where a key is cut short
 pub count_cut : (limit before turn : ℕ) (keys left : List ℕ) (key : ℕ) (ended : Bool) (why : Stop) (a b : Counts) → before ≡ length keys + turn → turn < limit → keys ≡ key ∷ left
-    → StrokeCause a b (Err why) → KeyCount limit before (length left) ended (Err why)
+    → KeystrokeCause a b (Err why) → KeyCount limit before (length left) ended (Err why)
 count_cut limit before turn keys left key ended why a b taken below first cause =
     let as_many : length keys ≡ length left + 1 = length_of_cons keys left key first in
     within limit before (length left) ended why a b (omega arith) cause

@@ -9,10 +9,10 @@ use Rattle.cm_state.specs.declared.turn.Turn.TheVariants as turn
 use Rattle.cm_run.specs.declared.engine.TheConstants.{FILE_LINES}
 use Rattle.cm_run.specs.declared.mode.Mode.{Mode}
 use Rattle.cm_run.specs.declared.mode.Mode.TheVariants as mode
-use Rattle.cm_run.specs.Event.{Act, Ask, Event, Key, Log, Memory, Moment, Screen, Trials, event_trials, state_behind, trials_of}
-use Rattle.cm_run.specs.Meaning.{Deed, Meaning}
-use Rattle.cm_run.specs.Progress.{keys_cost, stroke_cost}
-use Rattle.cm_run.specs.Trace.{RunState, Stroke, deed_trace, deeds_trace, events_if, file_trace, is_ended, key_trace, keys_trace, line_stroke, line_trace, opening, outcome_trace, raw_stroke, run_trace, starting, step, stroke, stroke_by, stroke_trace, turn_outcome, unless}
+use Rattle.cm_run.specs.Event.{Act, Ask, Event, Key, Log, Memory, Moment, Screen, Trials, event_trials, state_after, trials_of}
+use Rattle.cm_run.specs.Semantics.{Effect, Semantics}
+use Rattle.cm_run.specs.Progress.{keys_cost, keystroke_cost}
+use Rattle.cm_run.specs.Trace.{Keystroke, RunState, effect_trace, effects_trace, events_if, file_trace, is_ended, key_trace, keys_trace, keystroke, keystroke_by, keystroke_trace, line_keystroke, line_trace, opening, outcome_trace, raw_keystroke, run_trace, starting, step, turn_outcome, unless}
 use Rattle.cm_run.proofs.Fileless.{no_files}
 
 free_opening : (S : Type 0) (it : Mode) → sum_by event_trials (opening {S = S} it) ≡ 0
@@ -30,17 +30,17 @@ module _ {S : Type 0} where
   free_if true events free = free
   free_if false events free = refl
 
-  module _ (m : Meaning S) where
+  module _ (m : Semantics S) where
     -- a key costs its line, and what happens besides
-    outcome_costs : (logging : Bool) (state : S) (s : Stroke S) → sum_by event_trials (stroke_trace m logging state s) ≡ stroke_cost s
-    unfolding stroke_trace outcome_trace
+    outcome_costs : (logging : Bool) (state : S) (s : Keystroke S) → sum_by event_trials (keystroke_trace m logging state s) ≡ keystroke_cost s
+    unfolding keystroke_trace outcome_trace
     outcome_costs logging state s =
         let log : List (Event S) = events_if logging (Log s.log ∷ []) in
         let moment : List (Event S) = events_if s.outcome.takes_moment (Moment ∷ []) in
-        let begins : List (Event S) = events_if s.outcome.begins (opening (m.mode_of (state_behind state s.outcome.events))) in
+        let begins : List (Event S) = events_if s.outcome.begins (opening (m.mode_of (state_after state s.outcome.events))) in
         let head : List (Event S) = Trials s.cost ∷ Screen s.echo ∷ [] in
         let costs : sum_by event_trials head ≡ 0 + s.cost + 0 = refl in
-        let all : sum_by event_trials (stroke_trace m logging state s)
+        let all : sum_by event_trials (keystroke_trace m logging state s)
         ≡ sum_by event_trials head + sum_by event_trials (log ++ (moment ++ (s.outcome.events ++ begins)))
         = both head (log ++ (moment ++ (s.outcome.events ++ begins))) in
         omega (
@@ -52,7 +52,7 @@ module _ {S : Type 0} where
           both s.outcome.events begins,
           free_if logging (Log s.log ∷ []) refl,
           free_if s.outcome.takes_moment (Moment ∷ []) refl,
-          free_if s.outcome.begins (opening (m.mode_of (state_behind state s.outcome.events))) (free_opening S (m.mode_of (state_behind state s.outcome.events))),
+          free_if s.outcome.begins (opening (m.mode_of (state_after state s.outcome.events))) (free_opening S (m.mode_of (state_after state s.outcome.events))),
         )
 
     module _ (logging : Bool) where
@@ -71,20 +71,20 @@ module _ {S : Type 0} where
               → sum_by event_trials (unless (is_ended (m.mode_of (step m at key).state)) (keys_trace m logging (step m at key) keys))
               ≡ keys_cost m (step m at key) keys
               → sum_by event_trials (unless test (keys_trace m logging at (key ∷ keys)))
-              ≡ cond test 0 (stroke_cost (stroke m at key) + keys_cost m (step m at key) keys)
+              ≡ cond test 0 (keystroke_cost (keystroke m at key) + keys_cost m (step m at key) keys)
           by true later = refl
           by false later =
-              let behind : List (Event S) = unless (is_ended (m.mode_of (step m at key).state)) (keys_trace m logging (step m at key) keys) in
+              let after : List (Event S) = unless (is_ended (m.mode_of (step m at key).state)) (keys_trace m logging (step m at key) keys) in
               let head : List (Event S) = Ask ∷ Key key ∷ [] in
               let free : sum_by event_trials head ≡ 0 = refl in
               let all : sum_by event_trials (keys_trace m logging at (key ∷ keys))
-              ≡ sum_by event_trials head + sum_by event_trials (key_trace m logging at key ++ behind) = both head (key_trace m logging at key ++ behind) in
+              ≡ sum_by event_trials head + sum_by event_trials (key_trace m logging at key ++ after) = both head (key_trace m logging at key ++ after) in
               omega (
                 arith,
                 free,
                 all,
-                both (key_trace m logging at key) behind,
-                outcome_costs logging at.state (stroke m at key),
+                both (key_trace m logging at key) after,
+                outcome_costs logging at.state (keystroke m at key),
                 later,
               )
 
@@ -101,43 +101,43 @@ module _ {S : Type 0} where
           )
 
   -- acts cost nothing
-  free_deed : (may : Bool) (state : S) (reply : List ℕ) → sum_by event_trials (events_if may (Memory ∷ []) ++ (Act state ∷ Screen reply ∷ [])) ≡ 0
-  free_deed true state reply = refl
-  free_deed false state reply = refl
+  free_effect : (may : Bool) (state : S) (reply : List ℕ) → sum_by event_trials (events_if may (Memory ∷ []) ++ (Act state ∷ Screen reply ∷ [])) ≡ 0
+  free_effect true state reply = refl
+  free_effect false state reply = refl
 
-  free_deeds : (deeds : List (Deed S)) → sum_by event_trials (deeds_trace deeds) ≡ 0
-  unfolding deeds_trace
-  free_deeds [] = refl
-  free_deeds (deed ∷ deeds) =
+  free_effects : (effects : List (Effect S)) → sum_by event_trials (effects_trace effects) ≡ 0
+  unfolding effects_trace
+  free_effects [] = refl
+  free_effects (effect ∷ effects) =
       omega (
         arith,
-        both (deed_trace deed) (flat_map deed_trace deeds),
-        free_deed deed.may_allocate deed.state deed.reply,
-        free_deeds deeds,
+        both (effect_trace effect) (flat_map effect_trace effects),
+        free_effect effect.may_allocate effect.state effect.reply,
+        free_effects effects,
       )
 
   -- where no line of a command file ever waits, a key costs its line alone
-  module _ (m : Meaning S) (none : (state : S) → m.file_line state ≡ None) where
+  module _ (m : Semantics S) (none : (state : S) → m.file_line state ≡ None) where
     free_turn : (state : S) (session : SessionState) (moment : ℕ) (it : Turn) → sum_by event_trials (turn_outcome m state session moment it).events ≡ 0
     unfolding turn_outcome line_trace
     free_turn state session moment turn.Confirmed =
-        let acts = deeds_trace (m.line_deeds state session moment) in
+        let acts = effects_trace (m.line_effects state session moment) in
         omega (
           arith,
-          both acts (file_trace m FILE_LINES moment (state_behind state acts)),
-          free_deeds (m.line_deeds state session moment),
-          ap (λ events. sum_by event_trials events) (no_files m none FILE_LINES moment (state_behind state acts)),
+          both acts (file_trace m FILE_LINES moment (state_after state acts)),
+          free_effects (m.line_effects state session moment),
+          ap (λ events. sum_by event_trials events) (no_files m none FILE_LINES moment (state_after state acts)),
         )
     free_turn state session moment (turn.Refused fault) = refl
     free_turn state session moment turn.Abandoned = refl
     free_turn state session moment turn.Edited = refl
     free_turn state session moment turn.Failed = refl
 
-    free_events : (at : RunState S) (key : ℕ) (it : Mode) → sum_by event_trials (stroke_by m at key it).outcome.events ≡ 0
-    unfolding line_stroke raw_stroke
+    free_events : (at : RunState S) (key : ℕ) (it : Mode) → sum_by event_trials (keystroke_by m at key it).outcome.events ≡ 0
+    unfolding line_keystroke raw_keystroke
     free_events at key (mode.Line node prompt takes_moment) = free_turn _ _ _ _
-    free_events at key mode.Raw = free_deeds _
-    free_events at key mode.Ended = free_deeds _
+    free_events at key mode.Raw = free_effects _
+    free_events at key mode.Ended = free_effects _
 
-    pub line_is_all : (at : RunState S) (key : ℕ) → stroke_cost (stroke m at key) ≡ (stroke m at key).cost
+    pub line_is_all : (at : RunState S) (key : ℕ) → keystroke_cost (keystroke m at key) ≡ (keystroke m at key).cost
     line_is_all at key = omega (arith, free_events at key (m.mode_of at.state))

@@ -1,31 +1,31 @@
--- A run in its course: some of its trace has happened, and the rest is left.
+-- [run-trace] A run in its course: some of its trace has happened, and the rest is left.
 -- A loop has Ahead as its invariant: some events are done, and the rest is what the definition says from here on.
 use Rattle.std.proofs.Common.{◌≡◌, ℕ, Bool, true, false, List, [], ◌∷◌, ◌++◌, refl, sym, subst, ◌∙◌, arith, append_assoc}
 use Rattle.std.specs.Prelude.{Result, Ok, Err}
 use Rattle.std.proofs.lemmas.List.{append-nil}
 use Rattle.cm_io.specs.Fault.{next_count}
-use Rattle.cm_io.specs.Told.{Told}
+use Rattle.cm_io.specs.Contents.{Contents}
 use Rattle.cm_io.proofs.Additions.{add_none}
 use Rattle.cm_run.specs.declared.stop.Stop.{Stop}
 use Rattle.cm_run.specs.declared.stop.Stop.TheVariants as stop
 use Rattle.cm_run.specs.Event.{Event, Ask, Key, End}
-use Rattle.cm_run.specs.Observed.{Observed, Performs, observed}
+use Rattle.cm_run.specs.Observation.{Observation, Performs, observation}
 use Rattle.cm_run.specs.Cut.{EndCut, KeyCut, LimitCut, Traces}
-use Rattle.cm_run.specs.Meaning.{Meaning}
+use Rattle.cm_run.specs.Semantics.{Semantics}
 use Rattle.cm_run.specs.Trace.{RunState, is_ended, key_trace, keys_trace, step, unless}
 use Rattle.cm_run.proofs.Joins.{performs_both, performs_none, traces_both, traces_cut}
 
-pub record Ahead {S : Type 0} (a b : Observed S) (rest whole : List (Event S)) : Type 0 where
+pub record Ahead {S : Type 0} (a b : Observation S) (rest whole : List (Event S)) : Type 0 where
   pub done : List (Event S)
   pub performs : Performs a b done
   pub joined : done ++ rest ≡ whole
 
 -- at first all is left
-pub ahead_first : {S : Type 0} (a : Observed S) (whole : List (Event S)) → Ahead a a whole whole
+pub ahead_first : {S : Type 0} (a : Observation S) (whole : List (Event S)) → Ahead a a whole whole
 ahead_first a whole = record { done = []; performs = performs_none a; joined = refl }
 
 -- more has happened
-pub ahead_more : {S : Type 0} (a b c : Observed S) (events more whole : List (Event S)) → Ahead a b (events ++ more) whole → Performs b c events → Ahead a c more whole
+pub ahead_more : {S : Type 0} (a b c : Observation S) (events more whole : List (Event S)) → Ahead a b (events ++ more) whole → Performs b c events → Ahead a c more whole
 ahead_more a b c events more whole ahead performs = record {
   done = ahead.done ++ events;
   performs = performs_both a b c ahead.done events performs ahead.performs;
@@ -33,20 +33,20 @@ ahead_more a b c events more whole ahead performs = record {
 }
 
 -- what is left goes to its end, or is cut
-pub ahead_trace : {S : Type 0} (a b c : Observed S) (rest whole : List (Event S)) (result : Result Unit Stop) → Ahead a b rest whole → Traces b c rest result → Traces a c whole result
+pub ahead_trace : {S : Type 0} (a b c : Observation S) (rest whole : List (Event S)) (result : Result Unit Stop) → Ahead a b rest whole → Traces b c rest result → Traces a c whole result
 ahead_trace a b c rest whole result ahead traces =
     subst (λ events. Traces a c events result) ahead.joined (traces_both a b c ahead.done rest result traces ahead.performs)
 
 -- nothing is left
-pub ahead_all : {S : Type 0} (a b : Observed S) (whole : List (Event S)) (value : Unit) → Ahead a b [] whole → Traces a b whole (Ok value)
+pub ahead_all : {S : Type 0} (a b : Observation S) (whole : List (Event S)) (value : Unit) → Ahead a b [] whole → Traces a b whole (Ok value)
 unfolding Traces
 ahead_all a b whole value ahead =
     subst (λ events. Performs a b events) (sym (append-nil ahead.done) ∙ ahead.joined) ahead.performs
 
-module _ {S : Type 0} (m : Meaning S) (logging : Bool) (at : RunState S) (screen log : Told) (moments : List ℕ) (trials : ℕ) (state : S) where
+module _ {S : Type 0} (m : Semantics S) (logging : Bool) (at : RunState S) (screen log : Contents) (moments : List ℕ) (trials : ℕ) (state : S) where
   -- a key is asked for
   asks : (keys : List ℕ) (gets : ℕ)
-      → Performs (observed screen log keys gets moments trials state) (observed screen log keys (next_count gets) moments trials state) (Ask ∷ [])
+      → Performs (observation screen log keys gets moments trials state) (observation screen log keys (next_count gets) moments trials state) (Ask ∷ [])
   unfolding Performs
   asks keys gets = record {
     screen = sym (add_none screen);
@@ -60,7 +60,7 @@ module _ {S : Type 0} (m : Meaning S) (logging : Bool) (at : RunState S) (screen
 
   -- and taken
   takes : (key : ℕ) (keys : List ℕ) (gets : ℕ)
-      → Performs (observed screen log (key ∷ keys) gets moments trials state) (observed screen log keys (next_count gets) moments trials state) (Ask ∷ Key key ∷ [])
+      → Performs (observation screen log (key ∷ keys) gets moments trials state) (observation screen log keys (next_count gets) moments trials state) (Ask ∷ Key key ∷ [])
   unfolding Performs
   takes key keys gets = record {
     screen = sym (add_none screen);
@@ -74,7 +74,7 @@ module _ {S : Type 0} (m : Meaning S) (logging : Bool) (at : RunState S) (screen
 
   -- or none is left
   ends : (gets : ℕ)
-      → Performs (observed screen log [] gets moments trials state) (observed screen log [] (next_count gets) moments trials state) (Ask ∷ End ∷ [])
+      → Performs (observation screen log [] gets moments trials state) (observation screen log [] (next_count gets) moments trials state) (Ask ∷ End ∷ [])
   unfolding Performs
   ends gets = record {
     screen = sym (add_none screen);
@@ -87,23 +87,23 @@ module _ {S : Type 0} (m : Meaning S) (logging : Bool) (at : RunState S) (screen
   }
 
   -- the keys are read to their end
-  pub run_ends : (a : Observed S) (whole : List (Event S)) (ended : Bool) (keys left : List ℕ) (gets gets' : ℕ) (value : Unit)
-      → Ahead a (observed screen log keys gets moments trials state) (unless ended (keys_trace m logging at keys)) whole
+  pub run_ends : (a : Observation S) (whole : List (Event S)) (ended : Bool) (keys left : List ℕ) (gets gets' : ℕ) (value : Unit)
+      → Ahead a (observation screen log keys gets moments trials state) (unless ended (keys_trace m logging at keys)) whole
       → ended ≡ false → keys ≡ [] → left ≡ [] → gets' ≡ next_count gets
-      → Traces a (observed screen log left gets' moments trials state) whole (Ok value)
+      → Traces a (observation screen log left gets' moments trials state) whole (Ok value)
   unfolding Traces
   run_ends a whole ended keys left gets gets' value ahead is none end asked =
-      let now : Ahead a (observed screen log [] gets moments trials state) (Ask ∷ End ∷ []) whole
-      = subst (λ xs. Ahead a (observed screen log xs gets moments trials state) (keys_trace m logging at xs) whole) none
-      (subst (λ b. Ahead a (observed screen log keys gets moments trials state) (unless b (keys_trace m logging at keys)) whole) is ahead) in
-      let same : observed screen log [] (next_count gets) moments trials state ≡ observed screen log left gets' moments trials state = cc in
+      let now : Ahead a (observation screen log [] gets moments trials state) (Ask ∷ End ∷ []) whole
+      = subst (λ xs. Ahead a (observation screen log xs gets moments trials state) (keys_trace m logging at xs) whole) none
+      (subst (λ b. Ahead a (observation screen log keys gets moments trials state) (unless b (keys_trace m logging at keys)) whole) is ahead) in
+      let same : observation screen log [] (next_count gets) moments trials state ≡ observation screen log left gets' moments trials state = cc in
       subst (λ b. Traces a b whole (Ok value)) same
-      (ahead_trace a (observed screen log [] gets moments trials state) (observed screen log [] (next_count gets) moments trials state)
+      (ahead_trace a (observation screen log [] gets moments trials state) (observation screen log [] (next_count gets) moments trials state)
       (Ask ∷ End ∷ []) whole (Ok value) now (ends gets))
 
   -- the key is not given, by how many are left
   fails : (keys : List ℕ) (gets : ℕ)
-      → Traces (observed screen log keys gets moments trials state) (observed screen log keys (next_count gets) moments trials state)
+      → Traces (observation screen log keys gets moments trials state) (observation screen log keys (next_count gets) moments trials state)
       (keys_trace m logging at keys) (Err stop.Keys)
   unfolding Traces
   fails [] gets = record {
@@ -124,21 +124,21 @@ module _ {S : Type 0} (m : Meaning S) (logging : Bool) (at : RunState S) (screen
   }
 
   -- the keys could not be read on
-  pub run_fails : (a : Observed S) (whole : List (Event S)) (ended : Bool) (keys left : List ℕ) (gets gets' : ℕ)
-      → Ahead a (observed screen log keys gets moments trials state) (unless ended (keys_trace m logging at keys)) whole
+  pub run_fails : (a : Observation S) (whole : List (Event S)) (ended : Bool) (keys left : List ℕ) (gets gets' : ℕ)
+      → Ahead a (observation screen log keys gets moments trials state) (unless ended (keys_trace m logging at keys)) whole
       → ended ≡ false → left ≡ keys → gets' ≡ next_count gets
-      → Traces a (observed screen log left gets' moments trials state) whole (Err stop.Keys)
+      → Traces a (observation screen log left gets' moments trials state) whole (Err stop.Keys)
   run_fails a whole ended keys left gets gets' ahead is same asked =
-      let now : Ahead a (observed screen log keys gets moments trials state) (keys_trace m logging at keys) whole
-      = subst (λ b. Ahead a (observed screen log keys gets moments trials state) (unless b (keys_trace m logging at keys)) whole) is ahead in
-      let end : observed screen log keys (next_count gets) moments trials state ≡ observed screen log left gets' moments trials state = cc in
+      let now : Ahead a (observation screen log keys gets moments trials state) (keys_trace m logging at keys) whole
+      = subst (λ b. Ahead a (observation screen log keys gets moments trials state) (unless b (keys_trace m logging at keys)) whole) is ahead in
+      let end : observation screen log keys (next_count gets) moments trials state ≡ observation screen log left gets' moments trials state = cc in
       subst (λ b. Traces a b whole (Err stop.Keys)) end
-      (ahead_trace a (observed screen log keys gets moments trials state) (observed screen log keys (next_count gets) moments trials state)
+      (ahead_trace a (observation screen log keys gets moments trials state) (observation screen log keys (next_count gets) moments trials state)
       (keys_trace m logging at keys) whole (Err stop.Keys) now (fails keys gets))
 
   -- as many keys are taken as the limit says: the next is not asked for
   halts : (keys : List ℕ) (gets : ℕ)
-      → Traces (observed screen log keys gets moments trials state) (observed screen log keys gets moments trials state)
+      → Traces (observation screen log keys gets moments trials state) (observation screen log keys gets moments trials state)
       (keys_trace m logging at keys) (Err stop.Limit)
   unfolding Traces
   halts [] gets = record {
@@ -147,7 +147,7 @@ module _ {S : Type 0} (m : Meaning S) (logging : Bool) (at : RunState S) (screen
     rest = End ∷ [];
     cause = refl;
     split = refl;
-    stands = performs_none (observed screen log [] gets moments trials state);
+    stands = performs_none (observation screen log [] gets moments trials state);
   }
   halts (key ∷ keys) gets = record {
     done = [];
@@ -155,64 +155,64 @@ module _ {S : Type 0} (m : Meaning S) (logging : Bool) (at : RunState S) (screen
     rest = Key key ∷ (key_trace m logging at key ++ unless (is_ended (m.mode_of (step m at key).state)) (keys_trace m logging (step m at key) keys));
     cause = refl;
     split = refl;
-    stands = performs_none (observed screen log (key ∷ keys) gets moments trials state);
+    stands = performs_none (observation screen log (key ∷ keys) gets moments trials state);
   }
 
-  pub run_halts : (a : Observed S) (whole : List (Event S)) (ended : Bool) (keys : List ℕ) (gets : ℕ)
-      → Ahead a (observed screen log keys gets moments trials state) (unless ended (keys_trace m logging at keys)) whole
-      → ended ≡ false → Traces a (observed screen log keys gets moments trials state) whole (Err stop.Limit)
+  pub run_halts : (a : Observation S) (whole : List (Event S)) (ended : Bool) (keys : List ℕ) (gets : ℕ)
+      → Ahead a (observation screen log keys gets moments trials state) (unless ended (keys_trace m logging at keys)) whole
+      → ended ≡ false → Traces a (observation screen log keys gets moments trials state) whole (Err stop.Limit)
   run_halts a whole ended keys gets ahead is =
-      ahead_trace a (observed screen log keys gets moments trials state) (observed screen log keys gets moments trials state)
+      ahead_trace a (observation screen log keys gets moments trials state) (observation screen log keys gets moments trials state)
       (keys_trace m logging at keys) whole (Err stop.Limit)
-      (subst (λ b. Ahead a (observed screen log keys gets moments trials state) (unless b (keys_trace m logging at keys)) whole) is ahead)
+      (subst (λ b. Ahead a (observation screen log keys gets moments trials state) (unless b (keys_trace m logging at keys)) whole) is ahead)
       (halts keys gets)
 
   -- the application has ended the run
-  pub run_over : (a : Observed S) (whole : List (Event S)) (ended : Bool) (keys : List ℕ) (gets : ℕ) (value : Unit)
-      → Ahead a (observed screen log keys gets moments trials state) (unless ended (keys_trace m logging at keys)) whole
-      → ended ≡ true → Traces a (observed screen log keys gets moments trials state) whole (Ok value)
+  pub run_over : (a : Observation S) (whole : List (Event S)) (ended : Bool) (keys : List ℕ) (gets : ℕ) (value : Unit)
+      → Ahead a (observation screen log keys gets moments trials state) (unless ended (keys_trace m logging at keys)) whole
+      → ended ≡ true → Traces a (observation screen log keys gets moments trials state) whole (Ok value)
   run_over a whole ended keys gets value ahead is =
-      ahead_all a (observed screen log keys gets moments trials state) whole value
-      (subst (λ b. Ahead a (observed screen log keys gets moments trials state) (unless b (keys_trace m logging at keys)) whole) is ahead)
+      ahead_all a (observation screen log keys gets moments trials state) whole value
+      (subst (λ b. Ahead a (observation screen log keys gets moments trials state) (unless b (keys_trace m logging at keys)) whole) is ahead)
 
   -- a key is taken: what is left begins with its trace
-  taken : (a : Observed S) (whole : List (Event S)) (ended : Bool) (keys left : List ℕ) (gets gets' key : ℕ)
-      → Ahead a (observed screen log keys gets moments trials state) (unless ended (keys_trace m logging at keys)) whole
+  taken : (a : Observation S) (whole : List (Event S)) (ended : Bool) (keys left : List ℕ) (gets gets' key : ℕ)
+      → Ahead a (observation screen log keys gets moments trials state) (unless ended (keys_trace m logging at keys)) whole
       → ended ≡ false → keys ≡ key ∷ left → gets' ≡ next_count gets
-      → Ahead a (observed screen log left gets' moments trials state)
+      → Ahead a (observation screen log left gets' moments trials state)
       (key_trace m logging at key ++ unless (is_ended (m.mode_of (step m at key).state)) (keys_trace m logging (step m at key) left)) whole
   taken a whole ended keys left gets gets' key ahead is first asked =
       let rest = key_trace m logging at key ++ unless (is_ended (m.mode_of (step m at key).state)) (keys_trace m logging (step m at key) left) in
-      let now : Ahead a (observed screen log (key ∷ left) gets moments trials state) (Ask ∷ Key key ∷ rest) whole
-      = subst (λ xs. Ahead a (observed screen log xs gets moments trials state) (keys_trace m logging at xs) whole) first
-      (subst (λ b. Ahead a (observed screen log keys gets moments trials state) (unless b (keys_trace m logging at keys)) whole) is ahead) in
-      subst (λ n. Ahead a (observed screen log left n moments trials state) rest whole) (sym asked)
-      (ahead_more a (observed screen log (key ∷ left) gets moments trials state) (observed screen log left (next_count gets) moments trials state)
+      let now : Ahead a (observation screen log (key ∷ left) gets moments trials state) (Ask ∷ Key key ∷ rest) whole
+      = subst (λ xs. Ahead a (observation screen log xs gets moments trials state) (keys_trace m logging at xs) whole) first
+      (subst (λ b. Ahead a (observation screen log keys gets moments trials state) (unless b (keys_trace m logging at keys)) whole) is ahead) in
+      subst (λ n. Ahead a (observation screen log left n moments trials state) rest whole) (sym asked)
+      (ahead_more a (observation screen log (key ∷ left) gets moments trials state) (observation screen log left (next_count gets) moments trials state)
       (Ask ∷ Key key ∷ []) rest whole now (takes key left gets))
 
   -- it is done, and the next is left
-  pub run_goes_on : (a b : Observed S) (whole : List (Event S)) (ended : Bool) (keys left : List ℕ) (gets gets' key : ℕ) (next : RunState S) (value : Unit)
-      → Ahead a (observed screen log keys gets moments trials state) (unless ended (keys_trace m logging at keys)) whole
+  pub run_goes_on : (a b : Observation S) (whole : List (Event S)) (ended : Bool) (keys left : List ℕ) (gets gets' key : ℕ) (next : RunState S) (value : Unit)
+      → Ahead a (observation screen log keys gets moments trials state) (unless ended (keys_trace m logging at keys)) whole
       → ended ≡ false → keys ≡ key ∷ left → gets' ≡ next_count gets
-      → Traces (observed screen log left gets' moments trials state) b (key_trace m logging at key) (Ok value)
+      → Traces (observation screen log left gets' moments trials state) b (key_trace m logging at key) (Ok value)
       → next ≡ step m at key
       → Ahead a b (unless (is_ended (m.mode_of next.state)) (keys_trace m logging next left)) whole
   unfolding Traces
   run_goes_on a b whole ended keys left gets gets' key next value ahead is first asked traces leads =
       subst (λ to. Ahead a b (unless (is_ended (m.mode_of to.state)) (keys_trace m logging to left)) whole) (sym leads)
-      (ahead_more a (observed screen log left gets' moments trials state) b (key_trace m logging at key)
+      (ahead_more a (observation screen log left gets' moments trials state) b (key_trace m logging at key)
       (unless (is_ended (m.mode_of (step m at key).state)) (keys_trace m logging (step m at key) left)) whole
       (taken a whole ended keys left gets gets' key ahead is first asked) traces)
 
   -- or it is cut
-  pub run_stops : (a b : Observed S) (whole : List (Event S)) (ended : Bool) (keys left : List ℕ) (gets gets' key : ℕ) (why : Stop)
-      → Ahead a (observed screen log keys gets moments trials state) (unless ended (keys_trace m logging at keys)) whole
+  pub run_stops : (a b : Observation S) (whole : List (Event S)) (ended : Bool) (keys left : List ℕ) (gets gets' key : ℕ) (why : Stop)
+      → Ahead a (observation screen log keys gets moments trials state) (unless ended (keys_trace m logging at keys)) whole
       → ended ≡ false → keys ≡ key ∷ left → gets' ≡ next_count gets
-      → Traces (observed screen log left gets' moments trials state) b (key_trace m logging at key) (Err why)
+      → Traces (observation screen log left gets' moments trials state) b (key_trace m logging at key) (Err why)
       → Traces a b whole (Err why)
   run_stops a b whole ended keys left gets gets' key why ahead is first asked traces =
-      ahead_trace a (observed screen log left gets' moments trials state) b
+      ahead_trace a (observation screen log left gets' moments trials state) b
       (key_trace m logging at key ++ unless (is_ended (m.mode_of (step m at key).state)) (keys_trace m logging (step m at key) left)) whole (Err why)
       (taken a whole ended keys left gets gets' key ahead is first asked)
-      (traces_cut (observed screen log left gets' moments trials state) b (key_trace m logging at key)
+      (traces_cut (observation screen log left gets' moments trials state) b (key_trace m logging at key)
       (unless (is_ended (m.mode_of (step m at key).state)) (keys_trace m logging (step m at key) left)) why traces)

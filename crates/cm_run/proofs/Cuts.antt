@@ -6,10 +6,10 @@ use Rattle.std.specs.Prelude.{Result, Ok, Err}
 use Rattle.std.specs.List.{flat_map}
 use Rattle.std.proofs.lemmas.List.{append-nil}
 use Rattle.std.proofs.lemmas.Grind.{flat_map-append}
-use Rattle.cm_io.specs.Told.{AddsPart, IsPart}
+use Rattle.cm_io.specs.Contents.{AddsPart, IsPart}
 use Rattle.cm_run.specs.declared.stop.Stop.{Stop}
 use Rattle.cm_run.specs.Event.{Event, event_log, event_screen}
-use Rattle.cm_run.specs.Observed.{Observed, Performs}
+use Rattle.cm_run.specs.Observation.{Observation, Performs}
 use Rattle.cm_run.specs.Cut.{Cut, EndCut, KeyCut, LimitCut, LogCut, MemoryCut, ScreenCut, Traces, event_of, part_of}
 
 none : IsPart [] []
@@ -52,7 +52,7 @@ module _ {S : Type 0} where
   }
 
   -- on the screen
-  pub traces_screen : (a b : Observed S) (events : List (Event S)) (result : Result Unit Stop) → Traces a b events result
+  pub traces_screen : (a b : Observation S) (events : List (Event S)) (result : Result Unit Stop) → Traces a b events result
       → AddsPart a.screen b.screen (flat_map event_screen events)
   unfolding Traces Performs
   traces_screen a b events (Ok value) traces =
@@ -64,7 +64,7 @@ module _ {S : Type 0} where
   }
 
   -- and in the log
-  pub traces_log : (a b : Observed S) (events : List (Event S)) (result : Result Unit Stop) → Traces a b events result
+  pub traces_log : (a b : Observation S) (events : List (Event S)) (result : Result Unit Stop) → Traces a b events result
       → AddsPart a.log b.log (flat_map event_log events)
   unfolding Traces Performs
   traces_log a b events (Ok value) traces =

@@ -17,20 +17,20 @@ use Rattle.cm_state.specs.declared.prompt.Prompt.{Prompt}
 use Rattle.cm_state.specs.declared.prompt.Prompt.TheVariants.{Main}
 use Rattle.cm_state.specs.Echo.{echo, prompt_text}
 use Rattle.cm_state.specs.Edit.{completed, edit, edited, edited_as}
-use Rattle.cm_state.specs.SessionState.{SessionState, at_start, met_line}
+use Rattle.cm_state.specs.SessionState.{SessionState, at_start, line_before}
 use Rattle.cm_state.specs.Turn.{turn_of}
 use Rattle.cm_run.specs.declared.engine.TheConstants.{FILE_LINES}
 use Rattle.cm_run.specs.declared.mode.Mode.{Mode}
 use Rattle.cm_run.specs.declared.mode.Mode.TheVariants as mode
-use Rattle.cm_run.specs.Event.{Act, Event, event_screen, screen_bytes, state_behind}
-use Rattle.cm_run.specs.Meaning.{Meaning, setting_of}
+use Rattle.cm_run.specs.Event.{Act, Event, event_screen, screen_bytes, state_after}
+use Rattle.cm_run.specs.Semantics.{Semantics, setting_of}
 use Rattle.cm_run.specs.Obey.{left_by, replies}
 use Rattle.cm_run.specs.Progress.{MeetSound, progress}
 use Rattle.cm_run.specs.Sound.{IsSound}
-use Rattle.cm_run.specs.Trace.{Outcome, RunState, deeds_trace, events_if, file_line_trace, file_session, file_trace, is_ended, key_trace, line_start, line_stroke, line_trace, moment_at, next_line, opening, raw_stroke, run_state, run_trace, starting, step, step_by, step_of, stroke_by, stroke_trace, turn_outcome}
-use Rattle.cm_run.proofs.Screens.{keys_shown, screen-deeds, screen-stroke, shown_key, shown_none, shown_run, shown_ended, state-deeds}
+use Rattle.cm_run.specs.Trace.{Outcome, RunState, effects_trace, events_if, file_line_trace, file_session, file_trace, is_ended, key_trace, keystroke_by, keystroke_trace, line_keystroke, line_start, line_trace, moment_at, next_line, opening, raw_keystroke, run_state, run_trace, starting, step, step_by, step_of, turn_outcome}
+use Rattle.cm_run.proofs.Screens.{keys_shown, screen-effects, screen-keystroke, shown_key, shown_none, shown_run, shown_ended, state-effects}
 use Rattle.cm_run.specs.Keeping.{HasPrintedPrompt, IsLineKeeping, KeepsLine, ShowsIn, is_line}
-use Rattle.cm_run.specs.Shows.{EndsLine, IsClear, IsEnded, Shows, ShowsBehind, prompt_and_line}
+use Rattle.cm_run.specs.Shows.{EndsLine, IsClear, IsEnded, Shows, ShowsAfter, prompt_and_line}
 use Rattle.cm_run.proofs.LineEnds.{ends_both}
 use Rattle.cm_run.proofs.Echoes.{fed_none, key_clears, key_shows, reply_shows, start_is_clear, start_shows}
 
@@ -39,16 +39,16 @@ closed : (s : Setting) → IsSound s → (held : SessionState) (key : ℕ) (clas
     → IsClosed (edited_as s held class key).ending
 unfolding edited_as
 closed s sound held key class end =
-    subst (λ it. IsClosed (parse_of s held.node (cond (is_end it) (finished (edit it key (met_line held) held.restorable (completed s held it).bytes))
-    (edit it key (met_line held) held.restorable (completed s held it).bytes))).ending)
-    (sym end) (finished_closes s sound.grammar held.node (edit End key (met_line held) held.restorable (completed s held End).bytes))
+    subst (λ it. IsClosed (parse_of s held.node (cond (is_end it) (finished (edit it key (line_before held) held.recall (completed s held it).bytes))
+    (edit it key (line_before held) held.recall (completed s held it).bytes))).ending)
+    (sym end) (finished_closes s sound.grammar held.node (edit End key (line_before held) held.recall (completed s held End).bytes))
 
-module _ {S : Type 0} (m : Meaning S) (keeping : IsLineKeeping m) where
+module _ {S : Type 0} (m : Semantics S) (keeping : IsLineKeeping m) where
   -- what lines of command files show
   file_ends : (moment : ℕ) (state : S) (line : Option (List ℕ)) → EndsLine (screen_bytes (file_line_trace m moment state line))
   file_ends moment state None = inl refl
   file_ends moment state (Some line) =
-      subst EndsLine (sym (screen-deeds (m.file_line_deeds state (file_session m state line) moment)))
+      subst EndsLine (sym (screen-effects (m.file_line_effects state (file_session m state line) moment)))
       (keeping.file_lines state (file_session m state line) moment)
 
   files_end : (lines moment : ℕ) (state : S) → EndsLine (screen_bytes (file_trace m lines moment state))
@@ -56,24 +56,24 @@ module _ {S : Type 0} (m : Meaning S) (keeping : IsLineKeeping m) where
   files_end zero moment state = inl refl
   files_end (suc lines) moment state =
       let events = file_line_trace m moment state (next_line m state) in
-      let more = file_trace m lines moment (state_behind state events) in
+      let more = file_trace m lines moment (state_after state events) in
       subst EndsLine (sym (flat_map-append event_screen events more))
-      (ends_both (screen_bytes events) (screen_bytes more) (file_ends moment state (next_line m state)) (files_end lines moment (state_behind state events)))
+      (ends_both (screen_bytes events) (screen_bytes more) (file_ends moment state (next_line m state)) (files_end lines moment (state_after state events)))
 
   -- and what a line shows, with those that it takes
   line_ends : (state : S) (session : SessionState) (moment : ℕ) → EndsLine (screen_bytes (line_trace m state session moment))
   unfolding line_trace
   line_ends state session moment =
-      let acts = deeds_trace (m.line_deeds state session moment) in
-      let more = file_trace m FILE_LINES moment (state_behind state acts) in
+      let acts = effects_trace (m.line_effects state session moment) in
+      let more = file_trace m FILE_LINES moment (state_after state acts) in
       subst EndsLine (sym (flat_map-append event_screen acts more))
       (ends_both (screen_bytes acts) (screen_bytes more)
-      (subst EndsLine (sym (screen-deeds (m.line_deeds state session moment))) (keeping.lines state session moment))
-      (files_end FILE_LINES moment (state_behind state acts)))
+      (subst EndsLine (sym (screen-effects (m.line_effects state session moment))) (keeping.lines state session moment))
+      (files_end FILE_LINES moment (state_after state acts)))
 
-  -- what is shown behind the echo of a key of a line
+  -- what is shown after the echo of a key of a line
   abbrev shown_of : S → Outcome S → List ℕ
-  shown_of state o = screen_bytes o.events ++ screen_bytes {S = S} (events_if o.begins (opening (m.mode_of (state_behind state o.events))))
+  shown_of state o = screen_bytes o.events ++ screen_bytes {S = S} (events_if o.begins (opening (m.mode_of (state_after state o.events))))
 
   module _ {D : Type 0} (feed : D → List ℕ → D) (Holds : D → List ℕ → Type 0) (is_display : IsDisplay feed Holds) where
     -- between two keys: where the next is for a line, the display shows it
@@ -83,13 +83,13 @@ module _ {S : Type 0} (m : Meaning S) (keeping : IsLineKeeping m) where
     ShownBy mode.Ended display session = Unit {0}
 
     record Keeps (display : D) (at : RunState S) : Type 0 where
-      restorable : IfSome at.session.restorable IsLine
+      recall : IfSome at.session.recall IsLine
       shows : ShownBy (m.mode_of at.state) display at.session
 
     -- no bytes leave what is kept
     keeps_on : (display : D) (at : RunState S) → Keeps display at → Keeps (feed display []) at
     unfolding ShownBy
-    keeps_on display at keeps = record { restorable = keeps.restorable; shows = by (m.mode_of at.state) keeps.shows }
+    keeps_on display at keeps = record { recall = keeps.recall; shows = by (m.mode_of at.state) keeps.shows }
       where
         by : (it : Mode) → ShownBy it display at.session → ShownBy it (feed display []) at.session
         by (mode.Line node prompt takes) shown =
@@ -98,42 +98,42 @@ module _ {S : Type 0} (m : Meaning S) (keeping : IsLineKeeping m) where
         by mode.Ended shown = tt
 
     -- a line begins where the display holds nothing
-    begins : (display : D) (state : S) (moments : List ℕ) (session : SessionState) → IfSome session.restorable IsLine
+    begins : (display : D) (state : S) (moments : List ℕ) (session : SessionState) → IfSome session.recall IsLine
         → (is_line (m.mode_of state) ≡ true → Holds display [])
         → Keeps (feed display (screen_bytes (opening {S = S} (m.mode_of state)))) (run_state (line_start (m.mode_of state) session) state moments)
     unfolding ShownBy
-    begins display state moments session restorable blank = by (m.mode_of state) refl (keeping.prompts state) blank
+    begins display state moments session recall blank = by (m.mode_of state) refl (keeping.prompts state) blank
       where
         by : (it : Mode) → m.mode_of state ≡ it → HasPrintedPrompt it → (is_line it ≡ true → Holds display [])
             → Keeps (feed display (flat_map event_screen (opening {S = S} it))) (run_state (line_start it session) state moments)
         by (mode.Line node prompt takes_moment) is printed holds = record {
-          restorable = restorable;
-          shows = subst (λ it. ShownBy it (feed display (prompt_text prompt ++ [])) (at_start node prompt session.restorable)) (sym is) (
-            start_is_clear node prompt session.restorable printed restorable,
-            subst (λ bytes. Shows Holds (feed display bytes) (at_start node prompt session.restorable)) (sym (append-nil (prompt_text prompt)))
-                (start_shows feed Holds is_display display (holds refl) node prompt session.restorable printed),
+          recall = recall;
+          shows = subst (λ it. ShownBy it (feed display (prompt_text prompt ++ [])) (at_start node prompt session.recall)) (sym is) (
+            start_is_clear node prompt session.recall printed recall,
+            subst (λ bytes. Shows Holds (feed display bytes) (at_start node prompt session.recall)) (sym (append-nil (prompt_text prompt)))
+                (start_shows feed Holds is_display display (holds refl) node prompt session.recall printed),
           );
         }
         by mode.Raw is printed holds = record {
-          restorable = restorable;
+          recall = recall;
           shows = subst (λ it. ShownBy it (feed display []) session) (sym is) tt;
         }
         by mode.Ended is printed holds = record {
-          restorable = restorable;
+          recall = recall;
           shows = subst (λ it. ShownBy it (feed display []) session) (sym is) tt;
         }
 
-    -- behind the echo of a key something happens that ends its line, and the next line begins
+    -- after the echo of a key something happens that ends its line, and the next line begins
     next_begins : (display : D) (session : SessionState) (state : S) (moments : List ℕ) (takes : Bool) (events : List (Event S))
-        → IfSome session.restorable IsLine → Holds display [] → EndsLine (screen_bytes events)
-        → Keeps (feed display (screen_bytes events ++ screen_bytes (opening {S = S} (m.mode_of (state_behind state events)))))
+        → IfSome session.recall IsLine → Holds display [] → EndsLine (screen_bytes events)
+        → Keeps (feed display (screen_bytes events ++ screen_bytes (opening {S = S} (m.mode_of (state_after state events)))))
         (step_of m session state moments (record { takes_moment = takes; events = events; begins = true }))
     unfolding step_of
-    next_begins display session state moments takes events restorable holds ends =
-        let left = state_behind state events in
+    next_begins display session state moments takes events recall holds ends =
+        let left = state_after state events in
         subst (λ (it : D). Keeps it (step_of m session state moments (record { takes_moment = takes; events = events; begins = true })))
         (sym (is_display.turns display (screen_bytes events) (screen_bytes (opening {S = S} (m.mode_of left)))))
-        (begins (feed display (screen_bytes events)) left _ session restorable (λ is. reply_shows feed Holds is_display display (screen_bytes events) ends holds))
+        (begins (feed display (screen_bytes events)) left _ session recall (λ is. reply_shows feed Holds is_display display (screen_bytes events) ends holds))
 
     -- or nothing does, and the line goes on
     line_goes_on : (display : D) (session : SessionState) (state : S) (moments : List ℕ) → Keeps display (run_state session state moments)
@@ -148,53 +148,53 @@ module _ {S : Type 0} (m : Meaning S) (keeping : IsLineKeeping m) where
           (step_of m session state moments (turn_outcome m state session moment (turn_of End ends)))
       unfolding turn_outcome
       by_ending (ending.Open place) is holds = absurd is
-      by_ending ending.Done is holds = next_begins display session state moments _ (line_trace m state session moment) clear.restorable holds (line_ends state session moment)
-      by_ending (ending.Fault fault) is holds = next_begins display session state moments false (Act (m.refusal state) ∷ []) clear.restorable holds (inl refl)
+      by_ending ending.Done is holds = next_begins display session state moments _ (line_trace m state session moment) clear.recall holds (line_ends state session moment)
+      by_ending (ending.Fault fault) is holds = next_begins display session state moments false (Act (m.refusal state) ∷ []) clear.recall holds (inl refl)
 
-      by_turn : (class : KeyClass) (ends : Ending) → (class ≡ End → IsClosed ends) → ShowsBehind Holds class display session
+      by_turn : (class : KeyClass) (ends : Ending) → (class ≡ End → IsClosed ends) → ShowsAfter Holds class display session
           → Keeps (feed display (shown_of state (turn_outcome m state session moment (turn_of class ends))))
           (step_of m session state moments (turn_outcome m state session moment (turn_of class ends)))
       unfolding turn_outcome
       by_turn End ends is holds = by_ending ends (is refl) holds
-      by_turn Stop ends is holds = next_begins display session state moments false (Act (m.abandonment state) ∷ []) clear.restorable holds (inl refl)
+      by_turn Stop ends is holds = next_begins display session state moments false (Act (m.abandonment state) ∷ []) clear.recall holds (inl refl)
       by_turn class ends is shows = line_goes_on display session state moments (line display shows)
 
     -- a key of a line
     line_keeps : (logging : Bool) (at : RunState S) (key : ℕ) (display : D) (node : ℕ) (prompt : Prompt) (takes : Bool)
         → m.mode_of at.state ≡ mode.Line node prompt takes → IsSound (setting_of m at.state) → IsClear at.session → Shows Holds display at.session
-        → Keeps (feed display (screen_bytes (stroke_trace m logging at.state (line_stroke m at key)))) (step_by m at (line_stroke m at key))
-    unfolding line_stroke ShownBy
+        → Keeps (feed display (screen_bytes (keystroke_trace m logging at.state (line_keystroke m at key)))) (step_by m at (line_keystroke m at key))
+    unfolding line_keystroke ShownBy
     line_keeps logging at key display node prompt takes is sound clear shows =
         let under = setting_of m at.state in
         let session = edited under at.session key in
         let left : IsClear session = key_clears under sound at.session key clear in
-        let o = turn_outcome m at.state session (moment_at m at.state at.moments) (turn_of (class_at (met_line at.session) key) session.ending) in
-        subst (λ bytes. Keeps (feed display bytes) (step_of m session at.state at.moments o)) (sym (screen-stroke m logging at.state (line_stroke m at key)))
+        let o = turn_outcome m at.state session (moment_at m at.state at.moments) (turn_of (class_at (line_before at.session) key) session.ending) in
+        subst (λ bytes. Keeps (feed display bytes) (step_of m session at.state at.moments o)) (sym (screen-keystroke m logging at.state (line_keystroke m at key)))
         (subst (λ (it : D). Keeps it (step_of m session at.state at.moments o)) (sym (is_display.turns display (echo under at.session key) (shown_of at.state o)))
         (by_turn (feed display (echo under at.session key)) session at.state at.moments (moment_at m at.state at.moments) left
-        (λ to shown. record { restorable = left.restorable; shows = subst (λ it. ShownBy it to session) (sym is) (left, shown) })
-        (class_at (met_line at.session) key) session.ending
-        (λ end. closed under sound at.session key (class_at (met_line at.session) key) end)
+        (λ to shown. record { recall = left.recall; shows = subst (λ it. ShownBy it to session) (sym is) (left, shown) })
+        (class_at (line_before at.session) key) session.ending
+        (λ end. closed under sound at.session key (class_at (line_before at.session) key) end)
         (key_shows feed Holds is_display under sound at.session key clear display shows)))
 
     -- a raw key
-    raw_keeps : (logging : Bool) (at : RunState S) (key : ℕ) (display : D) → m.mode_of at.state ≡ mode.Raw → IfSome at.session.restorable IsLine
-        → Keeps (feed display (screen_bytes (stroke_trace m logging at.state (raw_stroke m at key)))) (step_by m at (raw_stroke m at key))
-    unfolding raw_stroke step_of
-    raw_keeps logging at key display is restorable =
-        let deeds = m.raw_deeds at.state key in
-        let left = left_by at.state deeds in
-        let begun = state_behind at.state (deeds_trace deeds) in
-        let leads : begun ≡ left = state-deeds deeds at.state in
+    raw_keeps : (logging : Bool) (at : RunState S) (key : ℕ) (display : D) → m.mode_of at.state ≡ mode.Raw → IfSome at.session.recall IsLine
+        → Keeps (feed display (screen_bytes (keystroke_trace m logging at.state (raw_keystroke m at key)))) (step_by m at (raw_keystroke m at key))
+    unfolding raw_keystroke step_of
+    raw_keeps logging at key display is recall =
+        let effects = m.raw_effects at.state key in
+        let left = left_by at.state effects in
+        let begun = state_after at.state (effects_trace effects) in
+        let leads : begun ≡ left = state-effects effects at.state in
         let opens = screen_bytes (opening {S = S} (m.mode_of begun)) in
-        let bytes : screen_bytes (stroke_trace m logging at.state (raw_stroke m at key)) ≡ (m.raw_echo at.state key ++ replies deeds) ++ opens =
-        screen-stroke m logging at.state (raw_stroke m at key)
-        ∙ ap (λ shown. m.raw_echo at.state key ++ (shown ++ opens)) (screen-deeds deeds)
-        ∙ sym (append_assoc (m.raw_echo at.state key) (replies deeds) opens) in
-        subst (λ shown. Keeps (feed display shown) (step_by m at (raw_stroke m at key))) (sym bytes)
-        (subst (λ (it : D). Keeps it (step_by m at (raw_stroke m at key))) (sym (is_display.turns display (m.raw_echo at.state key ++ replies deeds) opens))
-        (begins (feed display (m.raw_echo at.state key ++ replies deeds)) begun at.moments at.session restorable
-        (λ line. raw_blank display (m.raw_echo at.state key ++ replies deeds)
+        let bytes : screen_bytes (keystroke_trace m logging at.state (raw_keystroke m at key)) ≡ (m.raw_echo at.state key ++ replies effects) ++ opens =
+        screen-keystroke m logging at.state (raw_keystroke m at key)
+        ∙ ap (λ shown. m.raw_echo at.state key ++ (shown ++ opens)) (screen-effects effects)
+        ∙ sym (append_assoc (m.raw_echo at.state key) (replies effects) opens) in
+        subst (λ shown. Keeps (feed display shown) (step_by m at (raw_keystroke m at key))) (sym bytes)
+        (subst (λ (it : D). Keeps it (step_by m at (raw_keystroke m at key))) (sym (is_display.turns display (m.raw_echo at.state key ++ replies effects) opens))
+        (begins (feed display (m.raw_echo at.state key ++ replies effects)) begun at.moments at.session recall
+        (λ line. raw_blank display (m.raw_echo at.state key ++ replies effects)
         (keeping.raw_keys at.state key is (subst (λ (to : S). is_line (m.mode_of to) ≡ true) leads line)))))
       where
         raw_blank : (display : D) (bytes : List ℕ) → IsEnded bytes → Holds (feed display bytes) []
@@ -208,9 +208,9 @@ module _ {S : Type 0} (m : Meaning S) (keeping : IsLineKeeping m) where
     key_keeps logging at key display going sound keeps = by (m.mode_of at.state) refl keeps.shows
       where
         by : (it : Mode) → m.mode_of at.state ≡ it → ShownBy it display at.session
-            → Keeps (feed display (screen_bytes (stroke_trace m logging at.state (stroke_by m at key it)))) (step_by m at (stroke_by m at key it))
+            → Keeps (feed display (screen_bytes (keystroke_trace m logging at.state (keystroke_by m at key it)))) (step_by m at (keystroke_by m at key it))
         by (mode.Line node prompt takes) is shown = line_keeps logging at key display node prompt takes is sound shown.0 shown.1
-        by mode.Raw is shown = raw_keeps logging at key display is keeps.restorable
+        by mode.Raw is shown = raw_keeps logging at key display is keeps.recall
         by mode.Ended is shown = let ended : true ≡ false = sym (ap is_ended is) ∙ going in absurd (cc)
 
     -- and keys in turn

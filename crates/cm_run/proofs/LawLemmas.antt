@@ -1,4 +1,4 @@
--- What the laws of runs stand on.
+-- [confirmation] What the laws of runs stand on.
 use Rattle.std.proofs.Common.{inl, inr, ◌≡◌, ℕ, ◌+◌, ◌-◌, ◌^◌, ◌<◌, List, [], ◌∷◌, ◌++◌, refl, ap, sym, ◌∙◌, arith}
 use Rattle.std.specs.Prelude.{Bool, true, false, Result, Ok, Err, ◌⊎◌}
 use Rattle.std.specs.List.{flat_map, fold, sum_by}
@@ -14,20 +14,20 @@ use Rattle.cm_run.specs.declared.stop.Stop.{Stop}
 use Rattle.cm_run.specs.declared.stop.Stop.TheVariants as stop
 use Rattle.cm_run.specs.Cause.{Counts, KeyCount, RunCause}
 use Rattle.cm_run.specs.Cut.{Cut, EndCut, KeyCut, LimitCut, LogCut, MemoryCut, ScreenCut, Traces, event_of, part_of}
-use Rattle.cm_run.specs.Event.{Act, Event, Log, Screen, Trials, event_key, event_trials, gets_after, moments_after, state_after}
-use Rattle.cm_run.specs.Meaning.{Meaning}
-use Rattle.cm_run.specs.Observed.{Observed, Performs}
-use Rattle.cm_run.specs.Trace.{RunState, events_if, key_trace, outcome_trace, stroke, stroke_trace, turn_outcome}
+use Rattle.cm_run.specs.Event.{Act, Event, Log, Screen, Trials, event_key, event_trials, gets_after_event, moments_after_event, state_after_event}
+use Rattle.cm_run.specs.Semantics.{Semantics}
+use Rattle.cm_run.specs.Observation.{Observation, Performs}
+use Rattle.cm_run.specs.Trace.{RunState, events_if, key_trace, keystroke, keystroke_trace, outcome_trace, turn_outcome}
 
 -- a line is refused, and does what the application means by it
-pub refused : {S : Type 0} (m : Meaning S) (state : S) (session : SessionState) (moment : ℕ) (fault : Fault)
+pub refused : {S : Type 0} (m : Semantics S) (state : S) (session : SessionState) (moment : ℕ) (fault : Fault)
     → ((turn_outcome m state session moment (turn.Refused fault)).events ≡ Act (m.refusal state) ∷ [])
     × ((turn_outcome m state session moment (turn.Refused fault)).takes_moment ≡ false)
 unfolding turn_outcome
 refused m state session moment fault = (refl, refl)
 
 -- a line that goes on does nothing
-pub idle : {S : Type 0} (m : Meaning S) (state : S) (session : SessionState) (moment : ℕ) (it : Turn) → (turn_outcome m state session moment it).begins ≡ false
+pub idle : {S : Type 0} (m : Semantics S) (state : S) (session : SessionState) (moment : ℕ) (it : Turn) → (turn_outcome m state session moment it).begins ≡ false
     → ((turn_outcome m state session moment it).events ≡ []) × ((turn_outcome m state session moment it).takes_moment ≡ false)
 unfolding turn_outcome
 idle m state session moment turn.Confirmed on = absurd (cc)
@@ -46,18 +46,18 @@ module _ {S : Type 0} where
   no_acts [] = Unit {0}
   no_acts (event ∷ events) = (is_act event ≡ false) × no_acts events
 
-  -- an act behind events of which none is one stands behind all of them
-  behind_all : (front rest first more : List (Event S)) (left : S) → no_acts front → first ++ Act left ∷ more ≡ front ++ rest
+  -- an act after events of which none is one stands after all of them
+  after_all : (front rest first more : List (Event S)) (left : S) → no_acts front → first ++ Act left ∷ more ≡ front ++ rest
       → (between : List (Event S)) × (first ≡ front ++ between)
   unfolding is_act no_acts
-  behind_all [] rest first more left none same = (first, refl)
-  behind_all (event ∷ front) rest [] more left none same =
+  after_all [] rest first more left none same = (first, refl)
+  after_all (event ∷ front) rest [] more left none same =
       let first : Act left ≡ event = cc in
       let wrong : true ≡ false = ap is_act first ∙ none.0 in absurd (cc)
-  behind_all (event ∷ front) rest (other ∷ first) more left none same =
+  after_all (event ∷ front) rest (other ∷ first) more left none same =
       let head : other ≡ event = cc in
       let tail : first ++ Act left ∷ more ≡ front ++ rest = cc in
-      let found = behind_all front rest first more left none.1 tail in
+      let found = after_all front rest first more left none.1 tail in
       (found.0, ap (λ events. other ∷ events) found.1 ∙ ap (λ it. it ∷ (front ++ found.0)) head)
 
   log_acts : (logging : Bool) (line : Event S) → is_act line ≡ false → no_acts (events_if logging (line ∷ []))
@@ -65,15 +65,15 @@ module _ {S : Type 0} where
   log_acts true line none = (none, tt)
   log_acts false line none = tt
 
-  -- an act of a key stands behind its echo and its line of the log
-  pub acts_behind : (m : Meaning S) (logging : Bool) (at : RunState S) (key : ℕ) (first more : List (Event S)) (left : S)
+  -- an act of a key stands after its echo and its line of the log
+  pub acts_after : (m : Semantics S) (logging : Bool) (at : RunState S) (key : ℕ) (first more : List (Event S)) (left : S)
       → first ++ Act left ∷ more ≡ key_trace m logging at key
-      → (between : List (Event S)) × (first ≡ Trials (stroke m at key).cost ∷ Screen (stroke m at key).echo
-      ∷ (events_if logging (Log (stroke m at key).log ∷ []) ++ between))
-  unfolding is_act no_acts stroke_trace
-  acts_behind m logging at key first more left same =
-      let s = stroke m at key in
-      behind_all (Trials s.cost ∷ Screen s.echo ∷ events_if logging (Log s.log ∷ [])) (outcome_trace m at.state s.outcome) first more left
+      → (between : List (Event S)) × (first ≡ Trials (keystroke m at key).cost ∷ Screen (keystroke m at key).echo
+      ∷ (events_if logging (Log (keystroke m at key).log ∷ []) ++ between))
+  unfolding is_act no_acts keystroke_trace
+  acts_after m logging at key first more left same =
+      let s = keystroke m at key in
+      after_all (Trials s.cost ∷ Screen s.echo ∷ events_if logging (Log s.log ∷ [])) (outcome_trace m at.state s.outcome) first more left
       (refl, (refl, log_acts logging (Log s.log) refl)) same
 
   -- of a part of what is cut nothing is told but bytes
@@ -111,21 +111,21 @@ module _ {S : Type 0} where
       none MemoryCut = refl
       none LimitCut = refl
 
-  pub cut_is_exact : (before now : Observed S) (events : List (Event S)) (why : Stop) → Traces before now events (Err why)
+  pub cut_is_exact : (before now : Observation S) (events : List (Event S)) (why : Stop) → Traces before now events (Err why)
       → (done rest : List (Event S)) × (done ++ rest ≡ events)
-      × (flat_map event_key done ++ now.keys ≡ before.keys) × (now.gets ≡ fold gets_after before.gets done)
-      × (now.moments ≡ fold moments_after before.moments done) × (now.trials ≡ before.trials + sum_by event_trials done)
-      × (now.state ≡ fold state_after before.state done)
+      × (flat_map event_key done ++ now.keys ≡ before.keys) × (now.gets ≡ fold gets_after_event before.gets done)
+      × (now.moments ≡ fold moments_after_event before.moments done) × (now.trials ≡ before.trials + sum_by event_trials done)
+      × (now.state ≡ fold state_after_event before.state done)
   unfolding Traces Performs
   cut_is_exact before now events why traces = (
     traces.done,
     event_of traces.cut ∷ traces.rest,
     traces.split,
     ap (λ keys. keys ++ now.keys) (sym (part_keys traces.cut traces.done)) ∙ traces.stands.keys,
-    traces.stands.gets ∙ part_fold gets_after before.gets (λ to bytes. refl) (λ to bytes. refl) traces.cut traces.done,
-    traces.stands.moments ∙ part_fold moments_after before.moments (λ to bytes. refl) (λ to bytes. refl) traces.cut traces.done,
+    traces.stands.gets ∙ part_fold gets_after_event before.gets (λ to bytes. refl) (λ to bytes. refl) traces.cut traces.done,
+    traces.stands.moments ∙ part_fold moments_after_event before.moments (λ to bytes. refl) (λ to bytes. refl) traces.cut traces.done,
     traces.stands.trials ∙ ap (λ n. before.trials + n) (part_trials traces.cut traces.done),
-    traces.stands.state ∙ part_fold state_after before.state (λ to bytes. refl) (λ to bytes. refl) traces.cut traces.done,
+    traces.stands.state ∙ part_fold state_after_event before.state (λ to bytes. refl) (λ to bytes. refl) traces.cut traces.done,
   )
 
 -- a count that did not rise, below its last value

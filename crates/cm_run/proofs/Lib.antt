@@ -4,14 +4,15 @@ mod CommandLines
 mod Counts
 pub mod Course
 pub mod Cuts
-pub mod Deeds
 pub mod Displays
 pub mod Echoes
+pub mod Effects
 mod FileLines
 pub mod Fileless
 mod FirstPrompt
 pub mod Joins
 mod Keys
+mod Keystrokes
 mod LawLemmas
 pub mod LineEnds
 pub mod LinePrograms
@@ -27,4 +28,3 @@ pub mod Progress
 mod Rows
 pub mod Screens
 pub mod ShownBytes
-mod Strokes

@@ -2,8 +2,7 @@
 -- One impl<P: LineProgram> Application for P serves all programs of lines alone. Where two traits share a name the call
 -- says which (LineProgram::names(self)). What acts is two functions, one that writes the reply and one that changes. A
 -- match with constants in its patterns closes with nothing; so does a guard before a _ that puts nothing, where the
--- definition has a catch-all. By LineProgram the lamps went from 694 lines of code to 557, and from 472 lines of
--- definitions and proofs to 351.
+-- definition has a catch-all.
 use Rattle.std.proofs.Common.{◌≡◌, ◌≢◌, ℕ, true, List, Result, Ok, Err, inl, refl, sym, ap, ◌∙◌, arith}
 use Rattle.std.specs.Prelude.{Option, None, Some, IfSome}
 use Rattle.cm_io.specs.Display.{ArePrinted}
@@ -14,12 +13,12 @@ use Rattle.cm_state.specs.declared.prompt.Prompt.{Prompt}
 use Rattle.cm_state.specs.declared.turn.Turn.{Turn}
 use Rattle.cm_state.specs.declared.turn.Turn.TheVariants as turn
 use Rattle.cm_run.specs.Cause.{Counts, RunCause, counts}
-use Rattle.cm_run.specs.Event.{Event, state_behind}
+use Rattle.cm_run.specs.Event.{Event, state_after}
 use Rattle.cm_run.specs.Idle.{turn_at}
 use Rattle.cm_run.specs.Keeping.{HasPrintedPrompt, IsLineKeeping, is_line}
-use Rattle.cm_run.specs.LineMeaning.{LineMeaning, line_deed, line_mode, lines_only}
+use Rattle.cm_run.specs.LineSemantics.{LineSemantics, line_effect, line_mode, lines_only}
 use Rattle.cm_run.specs.LineRun.{LineCause}
-use Rattle.cm_run.specs.Meaning.{IsSparing}
+use Rattle.cm_run.specs.Semantics.{IsSparing}
 use Rattle.cm_run.specs.Shows.{EndsLine}
 use Rattle.cm_run.specs.Trace.{RunState, step}
 use Rattle.cm_run.specs.declared.engine.TheConstants.{FILE_LINES}
@@ -27,7 +26,7 @@ use Rattle.cm_run.specs.declared.mode.Mode.TheVariants as mode
 use Rattle.cm_run.specs.declared.stop.Stop.{Stop}
 use Rattle.cm_run.specs.declared.stop.Stop.TheVariants as stop
 use Rattle.cm_run.proofs.Fileless.{no_files}
-use Rattle.cm_run.proofs.LineEnds.{ends_deed}
+use Rattle.cm_run.proofs.LineEnds.{ends_effect}
 use Rattle.cm_run.proofs.LineTurns.{confirmed_leads, idle_stays, moment_of, session_at}
 
 -- a log that counts no fault does not fail
@@ -41,7 +40,7 @@ same_keys same = ap (λ (it : Counts). it.keys) same
 same_screen : {a b : Counts} → a ≡ b → a.screen ≡ b.screen
 same_screen same = ap (λ (it : Counts). it.screen) same
 
-module _ {S : Type 0} (p : LineMeaning S) where
+module _ {S : Type 0} (p : LineSemantics S) where
   -- a line that is confirmed leaves its state
   pub confirmed_leaves : (at : RunState S) (key : ℕ) → is_line ((lines_only p).mode_of at.state) ≡ true
       → turn_at (lines_only p) at key ≡ turn.Confirmed
@@ -49,7 +48,7 @@ module _ {S : Type 0} (p : LineMeaning S) where
   confirmed_leaves at key line is =
       let left : S = p.state_of at.state (session_at (lines_only p) at key) in
       confirmed_leads (lines_only p) at key line is
-      ∙ ap (λ (events : List (Event S)). state_behind left events)
+      ∙ ap (λ (events : List (Event S)). state_after left events)
       (no_files (lines_only p) (λ state. refl) FILE_LINES (moment_of (lines_only p) at) left)
 
   -- and nothing else changes the state
@@ -85,23 +84,23 @@ module _ {S : Type 0} (p : LineMeaning S) where
       → ((state : S) (session : SessionState) → EndsLine (p.reply_of state session)) → IsLineKeeping (lines_only p)
   keeps_lines prompts ends = record {
     prompts = λ state. printed (p.line_of state) (prompts state);
-    lines = λ state session moment. ends_deed (line_deed p state session) (ends state session);
+    lines = λ state session moment. ends_effect (line_effect p state session) (ends state session);
     file_lines = λ state session moment. inl refl;
     raw_keys = λ state key is line. absurd (never_raw (p.line_of state) is);
   }
 
-  -- memory may be wanting for none of its acts
+  -- memory may run out for none of its acts
   pub line_spares : IsSparing (lines_only p)
   line_spares = record {
-    line_deeds = λ state session moment. refl;
-    raw_deeds = λ state key. refl;
-    file_line_deeds = λ state session moment. refl;
+    line_effects = λ state session moment. refl;
+    raw_effects = λ state key. refl;
+    file_line_effects = λ state session moment. refl;
   }
 
   -- why its run ends, by the counts, of which that of the log cannot rise
-  pub line_cause : (keys keys' screen screen' : ℕ) (went : Result Unit Stop)
-      → RunCause (counts screen 0 keys) (counts screen' 0 keys') went → (IsSparing (lines_only p) → went ≢ Err stop.Memory)
-      → LineCause keys keys' screen screen' went
+  pub line_cause : (keys keys' screen screen' : ℕ) (outcome : Result Unit Stop)
+      → RunCause (counts screen 0 keys) (counts screen' 0 keys') outcome → (IsSparing (lines_only p) → outcome ≢ Err stop.Memory)
+      → LineCause keys keys' screen screen' outcome
   unfolding RunCause LineCause
   line_cause keys keys' screen screen' (Ok value) same spares = (same_keys same, same_screen same)
   line_cause keys keys' screen screen' (Err stop.Limit) same spares = (same_keys same, same_screen same)

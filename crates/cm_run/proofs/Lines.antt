@@ -2,7 +2,7 @@
 use Rattle.std.proofs.Common.{◌≡◌, ℕ, ◌==◌, ◌&&◌, ◌||◌, not, Bool, true, false, [], ◌∷◌, nat_le, if◌then◌else◌, refl, sym, arith}
 use Rattle.std.proofs.lemmas.Bool.Decides.{nat_tests}
 use Rattle.cm_text.specs.Bytes.{is_line_byte, is_text}
-use Rattle.cm_text.specs.Shown.{screen_byte, shown_byte}
+use Rattle.cm_text.specs.ScreenBytes.{screen_byte, shown_byte}
 use Rattle.cm_text.specs.declared.text.TheConstants.{JOIN}
 use Rattle.cm_io.specs.Display.{is_printed}
 

@@ -7,11 +7,11 @@ use Rattle.std.proofs.lemmas.List.Folds.{list_any-append}
 use Rattle.std.proofs.lemmas.Grind.{flat_map-append}
 use Rattle.cm_run.specs.declared.mode.Mode.{Mode}
 use Rattle.cm_run.specs.declared.mode.Mode.TheVariants as mode
-use Rattle.cm_run.specs.Event.{Event, Act, Ask, Key, End, Log, Memory, Moment, Screen, event_key, keys_of, state_behind}
+use Rattle.cm_run.specs.Event.{Event, Act, Ask, Key, End, Log, Memory, Moment, Screen, event_key, keys_of, state_after}
 use Rattle.cm_run.specs.LastKey.{LastKey, met_by}
-use Rattle.cm_run.specs.Meaning.{Deed, Meaning}
+use Rattle.cm_run.specs.Semantics.{Effect, Semantics}
 use Rattle.cm_run.specs.Progress.{progress}
-use Rattle.cm_run.specs.Trace.{RunState, Stroke, deed_trace, deeds_trace, events_if, is_ended, key_trace, keys_trace, opening, outcome_trace, run_trace, starting, step, stroke_trace, unless}
+use Rattle.cm_run.specs.Trace.{Keystroke, RunState, effect_trace, effects_trace, events_if, is_ended, key_trace, keys_trace, keystroke_trace, opening, outcome_trace, run_trace, starting, step, unless}
 use Rattle.cm_run.proofs.Prefixes.{keys_of_key}
 use Rattle.cm_run.proofs.Progress.{progress_key}
 
@@ -53,14 +53,14 @@ module _ {S : Type 0} where
     by true later = refl
     by false later = later
 
-  -- by acts, where it may be wanting for one
-  pub asks_deeds : (deeds : List (Deed S)) → asks (deeds_trace deeds) ≡ list_any (λ (deed : Deed S). deed.may_allocate) deeds
-  unfolding deeds_trace
-  asks_deeds [] = refl
-  asks_deeds (deed ∷ deeds) =
-      asks_both (deed_trace deed) (deeds_trace deeds) ∙ ap (λ more. asks (deed_trace deed) || more) (asks_deeds deeds)
-      ∙ ap (λ first. first || list_any (λ (it : Deed S). it.may_allocate) deeds) (one deed.may_allocate) where
-        one : (may : Bool) → asks (events_if may (Memory ∷ []) ++ (Act deed.state ∷ Screen deed.reply ∷ [])) ≡ may
+  -- by acts, where it may run out for one
+  pub asks_effects : (effects : List (Effect S)) → asks (effects_trace effects) ≡ list_any (λ (effect : Effect S). effect.may_allocate) effects
+  unfolding effects_trace
+  asks_effects [] = refl
+  asks_effects (effect ∷ effects) =
+      asks_both (effect_trace effect) (effects_trace effects) ∙ ap (λ more. asks (effect_trace effect) || more) (asks_effects effects)
+      ∙ ap (λ first. first || list_any (λ (it : Effect S). it.may_allocate) effects) (one effect.may_allocate) where
+        one : (may : Bool) → asks (events_if may (Memory ∷ []) ++ (Act effect.state ∷ Screen effect.reply ∷ [])) ≡ may
         one true = refl
         one false = refl
 
@@ -68,17 +68,17 @@ module _ {S : Type 0} where
   none_if true events none = none
   none_if false events none = refl
 
-  -- by a key, where it is by what the key comes to
-  pub asks_stroke : (m : Meaning S) (logging : Bool) (state : S) (s : Stroke S) → asks (stroke_trace m logging state s) ≡ asks s.outcome.events
-  unfolding stroke_trace outcome_trace
-  asks_stroke m logging state s =
+  -- by a key, where it is by the outcome of the key
+  pub asks_keystroke : (m : Semantics S) (logging : Bool) (state : S) (s : Keystroke S) → asks (keystroke_trace m logging state s) ≡ asks s.outcome.events
+  unfolding keystroke_trace outcome_trace
+  asks_keystroke m logging state s =
       let log = events_if logging (Log s.log ∷ []) in
       let moment = events_if s.outcome.takes_moment (Moment ∷ []) in
-      let begins = events_if s.outcome.begins (opening (m.mode_of (state_behind state s.outcome.events))) in
+      let begins = events_if s.outcome.begins (opening (m.mode_of (state_after state s.outcome.events))) in
       asks_both log (moment ++ (s.outcome.events ++ begins)) ∙ either (asks log) _ (none_if logging (Log s.log ∷ []) refl)
       ∙ asks_both moment (s.outcome.events ++ begins) ∙ either (asks moment) _ (none_if s.outcome.takes_moment (Moment ∷ []) refl)
       ∙ asks_both s.outcome.events begins
-      ∙ ap (λ none. asks s.outcome.events || none) (none_if s.outcome.begins _ (none_opens S (m.mode_of (state_behind state s.outcome.events))))
+      ∙ ap (λ none. asks s.outcome.events || none) (none_if s.outcome.begins _ (none_opens S (m.mode_of (state_after state s.outcome.events))))
       ∙ or_none (asks s.outcome.events)
 
   never : (done rest events : List (Event S)) → done ++ Memory ∷ rest ≡ events → asks events ≡ false → ⊥
@@ -88,12 +88,12 @@ module _ {S : Type 0} where
   abbrev In : List (Event S) → List (Event S) → Type 0
   In done events = (rest : List (Event S)) × (done ++ Memory ∷ rest ≡ events)
 
-  pub record Behind (first more done : List (Event S)) : Type 0 where
+  pub record After (first more done : List (Event S)) : Type 0 where
     pub between : List (Event S)
     pub joined : done ≡ first ++ between
     pub there : In between more
 
-  parted : (first more done rest : List (Event S)) → done ++ Memory ∷ rest ≡ first ++ more → In done first ⊎ Behind first more done
+  parted : (first more done rest : List (Event S)) → done ++ Memory ∷ rest ≡ first ++ more → In done first ⊎ After first more done
   parted [] more done rest same = inr (record { between = done; joined = refl; there = (rest, same) })
   parted (event ∷ first) more [] rest same =
       let head : Memory ≡ event = cc in inl (first, ap (λ (it : Event S). it ∷ first) head)
@@ -104,12 +104,12 @@ module _ {S : Type 0} where
     tail : done ++ Memory ∷ rest ≡ first ++ more
     tail = cc
 
-    by : In done first ⊎ Behind first more done → In (other ∷ done) (event ∷ first) ⊎ Behind (event ∷ first) more (other ∷ done)
+    by : In done first ⊎ After first more done → In (other ∷ done) (event ∷ first) ⊎ After (event ∷ first) more (other ∷ done)
     by (inl found) = inl (found.0, ap (λ (it : Event S). it ∷ (done ++ Memory ∷ found.0)) head ∙ ap (λ events. event ∷ events) found.1)
-    by (inr behind) = inr (record {
-      between = behind.between;
-      joined = ap (λ (it : Event S). it ∷ done) head ∙ ap (λ events. event ∷ events) behind.joined;
-      there = behind.there;
+    by (inr after) = inr (record {
+      between = after.between;
+      joined = ap (λ (it : Event S). it ∷ done) head ∙ ap (λ events. event ∷ events) after.joined;
+      there = after.there;
     })
 
   keyless : (done events : List (Event S)) → In done events → keys_of events ≡ [] → keys_of done ≡ []
@@ -117,15 +117,15 @@ module _ {S : Type 0} where
       no_front (keys_of done) (keys_of (Memory ∷ found.0))
       (sym (flat_map-append event_key done (Memory ∷ found.0)) ∙ ap (λ it. keys_of it) found.1 ∙ none)
 
-  module _ (m : Meaning S) (logging : Bool) where
+  module _ (m : Semantics S) (logging : Bool) where
     -- some key was the last that was taken, and among what it did memory was asked for
     pub record Asked (start : RunState S) (taken : List ℕ) : Type 0 where
       pub last : LastKey m start taken
       pub there : asks (key_trace m logging (met_by m start taken last) last.key) ≡ true
 
-    -- so it is behind a key before
-    behind_key : (at : RunState S) (key : ℕ) (taken : List ℕ) → is_ended (m.mode_of at.state) ≡ false → Asked (step m at key) taken → Asked at (key ∷ taken)
-    behind_key at key taken going asked =
+    -- so it is after a key before
+    after_key : (at : RunState S) (key : ℕ) (taken : List ℕ) → is_ended (m.mode_of at.state) ≡ false → Asked (step m at key) taken → Asked at (key ∷ taken)
+    after_key at key taken going asked =
         let same = progress_key m at key asked.last.first going in
         record {
           last = record {
@@ -137,14 +137,14 @@ module _ {S : Type 0} where
           there = subst (λ (it : RunState S). asks (key_trace m logging it asked.last.key) ≡ true) (sym same) asked.there;
         }
 
-    -- what stands of a key before what it does, and what stands behind it
+    -- what stands of a key before what it does, and what stands after it
     abbrev front_of : ℕ → List (Event S)
     front_of key = Ask ∷ Key key ∷ []
 
-    abbrev behind_of : RunState S → ℕ → List ℕ → List (Event S)
-    behind_of at key keys = unless (is_ended (m.mode_of (step m at key).state)) (keys_trace m logging (step m at key) keys)
+    abbrev after_of : RunState S → ℕ → List ℕ → List (Event S)
+    after_of at key keys = unless (is_ended (m.mode_of (step m at key).state)) (keys_trace m logging (step m at key) keys)
 
-    -- the keys behind it
+    -- the keys after it
     abbrev Later : RunState S → ℕ → List ℕ → Type 0
     Later at key keys = (further more : List (Event S)) → is_ended (m.mode_of (step m at key).state) ≡ false
         → further ++ Memory ∷ more ≡ keys_trace m logging (step m at key) keys → Asked (step m at key) (keys_of further)
@@ -155,7 +155,7 @@ module _ {S : Type 0} where
     asked_keys [] at done rest going same = absurd (never done rest (Ask ∷ End ∷ []) same refl)
     asked_keys (key ∷ keys) at done rest going same =
         by (λ further more on next. asked_keys keys (step m at key) further more on next)
-        (parted (front_of key) (key_trace m logging at key ++ behind_of at key keys) done rest same)
+        (parted (front_of key) (key_trace m logging at key ++ after_of at key keys) done rest same)
       where
         here : (between : List (Event S)) → done ≡ front_of key ++ between → In between (key_trace m logging at key) → Asked at (keys_of done)
         here between joined found =
@@ -175,17 +175,17 @@ module _ {S : Type 0} where
             ∙ ap (λ more. key ∷ more) (sym (flat_map-append event_key (key_trace m logging at key) further))
             ∙ ap (λ it. key ∷ keys_of it) (sym then) ∙ ap (λ it. keys_of it) (sym joined) in
             subst (λ it. Asked at it) taken
-            (behind_key at key (keys_of further) going (again further found.0 is found.1))
+            (after_key at key (keys_of further) going (again further found.0 is found.1))
 
-        within : Later at key keys → (between : List (Event S)) → done ≡ front_of key ++ between → In between (key_trace m logging at key) ⊎ Behind (key_trace m logging at key) (behind_of at key keys) between → Asked at (keys_of done)
+        within : Later at key keys → (between : List (Event S)) → done ≡ front_of key ++ between → In between (key_trace m logging at key) ⊎ After (key_trace m logging at key) (after_of at key keys) between → Asked at (keys_of done)
         within again between joined (inl found) = here between joined found
         within again between joined (inr found) =
             later again (is_ended (m.mode_of (step m at key).state)) refl between found.between joined found.joined found.there
 
-        by : Later at key keys → In done (front_of key) ⊎ Behind (front_of key) (key_trace m logging at key ++ behind_of at key keys) done → Asked at (keys_of done)
+        by : Later at key keys → In done (front_of key) ⊎ After (front_of key) (key_trace m logging at key ++ after_of at key keys) done → Asked at (keys_of done)
         by again (inl found) = absurd (never done found.0 (front_of key) found.1 refl)
         by again (inr found) =
-            within again found.between found.joined (parted (key_trace m logging at key) (behind_of at key keys) found.between found.there.0 found.there.1)
+            within again found.between found.joined (parted (key_trace m logging at key) (after_of at key keys) found.between found.there.0 found.there.1)
 
     -- where memory is asked for in a run
     pub asked_run : (state : S) (moments keys : List ℕ) (done rest : List (Event S)) → done ++ Memory ∷ rest ≡ run_trace m logging state moments keys
@@ -207,6 +207,6 @@ module _ {S : Type 0} where
             ∙ sym (flat_map-append event_key (opening (m.mode_of state)) between) ∙ ap (λ it. keys_of it) (sym joined) in
             subst (λ it. Asked (starting m state moments) it) taken (asked_keys keys (starting m state moments) between found.0 is found.1)
 
-        by : In done (opening (m.mode_of state)) ⊎ Behind (opening (m.mode_of state)) (unless (is_ended (m.mode_of state)) (keys_trace m logging (starting m state moments) keys)) done → Asked (starting m state moments) (keys_of done)
+        by : In done (opening (m.mode_of state)) ⊎ After (opening (m.mode_of state)) (unless (is_ended (m.mode_of state)) (keys_trace m logging (starting m state moments) keys)) done → Asked (starting m state moments) (keys_of done)
         by (inl found) = absurd (never done found.0 (opening (m.mode_of state)) found.1 (none_opens S (m.mode_of state)))
         by (inr found) = later (is_ended (m.mode_of state)) refl found.between found.joined found.there

@@ -7,12 +7,12 @@ use Rattle.std.specs.Prelude.{None}
 use Rattle.std.proofs.lemmas.List.{append_cancel_right}
 use Rattle.cm_state.specs.SessionState.{SessionState, at_start}
 use Rattle.cm_state.specs.declared.prompt.Prompt.TheVariants.{Main}
-use Rattle.cm_run.specs.Meaning.{Meaning, setting_of}
+use Rattle.cm_run.specs.Semantics.{Semantics, setting_of}
 use Rattle.cm_run.specs.Progress.{MeetSound, progress}
 use Rattle.cm_run.specs.Sound.{IsSound}
 use Rattle.cm_run.specs.Trace.{RunState, is_ended, line_start, run_state, starting, step}
 
-module _ {S : Type 0} (m : Meaning S) where
+module _ {S : Type 0} (m : Semantics S) where
   -- a run that has ended stays where it is
   pub progress_ended : (at : RunState S) (keys : List ℕ) → is_ended (m.mode_of at.state) ≡ true → progress m at keys ≡ at
   unfolding progress
@@ -57,45 +57,45 @@ module _ {S : Type 0} (m : Meaning S) where
   sound_first (key ∷ first) rest at met = λ going. ((met going).0, sound_first first rest (step m at key) (met going).1)
 
   -- of these keys some were taken: they lead here, and what each met was sound
-  pub record Went (start at : RunState S) (before now : List ℕ) : Type 0 where
+  pub record RunSoFar (start at : RunState S) (before now : List ℕ) : Type 0 where
     pub keys : List ℕ
     pub joined : keys ++ now ≡ before
     pub leads : progress m start keys ≡ at
     pub sound : MeetSound m start keys
 
   -- none is taken
-  pub went_first : (state : S) (moments before : List ℕ) (session first : SessionState) → first ≡ at_start 0 Main None
-      → session ≡ line_start (m.mode_of state) first → Went (starting m state moments) (run_state session state moments) before before
+  pub so_far_first : (state : S) (moments before : List ℕ) (session first : SessionState) → first ≡ at_start 0 Main None
+      → session ≡ line_start (m.mode_of state) first → RunSoFar (starting m state moments) (run_state session state moments) before before
   unfolding progress MeetSound
-  went_first state moments before session first starts opens = record {
+  so_far_first state moments before session first starts opens = record {
     keys = [];
     joined = refl;
     leads = sym (ap (λ it. run_state it state moments) (opens ∙ ap (λ it. line_start (m.mode_of state) it) starts));
     sound = tt;
   }
 
-  module _ (start at : RunState S) (before now : List ℕ) (went : Went start at before now) where
+  module _ (start at : RunState S) (before now : List ℕ) (so_far : RunSoFar start at before now) where
     -- one more is
-    pub went_on : (later : List ℕ) (key : ℕ) (next : RunState S) → is_ended (m.mode_of at.state) ≡ false → now ≡ key ∷ later
-        → IsSound (setting_of m at.state) → next ≡ step m at key → Went start next before later
+    pub so_far_on : (later : List ℕ) (key : ℕ) (next : RunState S) → is_ended (m.mode_of at.state) ≡ false → now ≡ key ∷ later
+        → IsSound (setting_of m at.state) → next ≡ step m at key → RunSoFar start next before later
     unfolding progress
-    went_on later key next going got is leads = record {
-      keys = went.keys ++ key ∷ [];
-      joined = append_assoc went.keys (key ∷ []) later ∙ ap (λ left. went.keys ++ left) (sym got) ∙ went.joined;
-      leads = progress-append went.keys (key ∷ []) start ∙ ap (λ to. progress m to (key ∷ [])) went.leads
+    so_far_on later key next going got is leads = record {
+      keys = so_far.keys ++ key ∷ [];
+      joined = append_assoc so_far.keys (key ∷ []) later ∙ ap (λ left. so_far.keys ++ left) (sym got) ∙ so_far.joined;
+      leads = progress-append so_far.keys (key ∷ []) start ∙ ap (λ to. progress m to (key ∷ [])) so_far.leads
           ∙ progress_key at key [] going ∙ sym leads;
-      sound = sound_more went.keys start key went.sound
-          (λ on. subst (λ (to : RunState S). IsSound (setting_of m to.state)) (sym went.leads) is);
+      sound = sound_more so_far.keys start key so_far.sound
+          (λ on. subst (λ (to : RunState S). IsSound (setting_of m to.state)) (sym so_far.leads) is);
     }
 
     -- what the first of those that were taken met is sound
     pub went_sound : (later : List ℕ) → later ≡ now → (first rest : List ℕ) → (first ++ rest) ++ later ≡ before → MeetSound m start first
     went_sound later same first rest all =
         let joined : (first ++ rest) ++ now ≡ before = ap (λ left. (first ++ rest) ++ left) (sym same) ∙ all in
-        let taken : went.keys ≡ first ++ rest = append_cancel_right went.keys (first ++ rest) now (went.joined ∙ sym joined) in
-        sound_first first rest start (subst (λ keys. MeetSound m start keys) taken went.sound)
+        let taken : so_far.keys ≡ first ++ rest = append_cancel_right so_far.keys (first ++ rest) now (so_far.joined ∙ sym joined) in
+        sound_first first rest start (subst (λ keys. MeetSound m start keys) taken so_far.sound)
 
     -- and of one that is taken besides
     pub went_cut : (later : List ℕ) (key : ℕ) → is_ended (m.mode_of at.state) ≡ false → now ≡ key ∷ later
-        → IsSound (setting_of m at.state) → Went start (step m at key) before later
-    went_cut later key going got is = went_on later key (step m at key) going got is refl
+        → IsSound (setting_of m at.state) → RunSoFar start (step m at key) before later
+    went_cut later key going got is = so_far_on later key (step m at key) going got is refl

@@ -2,11 +2,11 @@
 use Rattle.std.proofs.Common.{◌≡◌, ℕ, Bool, true, false, cond, List, [], ◌∷◌, ◌++◌, refl, ap, sym, ◌∙◌, append_assoc}
 use Rattle.std.specs.List.{flat_map, fold}
 use Rattle.std.proofs.lemmas.Grind.{flat_map-append}
-use Rattle.cm_run.specs.Event.{Act, Event, Log, Memory, Moment, Screen, event_screen, screen_bytes, state_after, state_behind}
-use Rattle.cm_run.specs.Meaning.{Deed, Meaning}
+use Rattle.cm_run.specs.Event.{Act, Event, Log, Memory, Moment, Screen, event_screen, screen_bytes, state_after, state_after_event}
+use Rattle.cm_run.specs.Semantics.{Effect, Semantics}
 use Rattle.cm_run.specs.Obey.{left_by, replies}
 use Rattle.cm_run.specs.Progress.{progress}
-use Rattle.cm_run.specs.Trace.{RunState, Stroke, deed_trace, deeds_trace, events_if, is_ended, key_trace, keys_trace, opening, outcome_trace, run_trace, starting, step, stroke_trace, unless}
+use Rattle.cm_run.specs.Trace.{Keystroke, RunState, effect_trace, effects_trace, events_if, is_ended, key_trace, keys_trace, keystroke_trace, opening, outcome_trace, run_trace, starting, step, unless}
 
 silent_log : (S : Type 0) (test : Bool) (line : List ℕ) → flat_map event_screen (events_if {S = S} test (Log line ∷ [])) ≡ []
 silent_log S true line = refl
@@ -18,45 +18,45 @@ silent_moment S false = refl
 
 module _ {S : Type 0} where
   -- what acts show
-  deed_shows : (may : Bool) (state : S) (reply : List ℕ) (more : List (Event S))
+  effect_shows : (may : Bool) (state : S) (reply : List ℕ) (more : List (Event S))
       → flat_map event_screen ((events_if may (Memory ∷ []) ++ (Act state ∷ Screen reply ∷ [])) ++ more) ≡ reply ++ flat_map event_screen more
-  deed_shows true state reply more = refl
-  deed_shows false state reply more = refl
+  effect_shows true state reply more = refl
+  effect_shows false state reply more = refl
 
-  pub screen-deeds : (deeds : List (Deed S)) → screen_bytes (deeds_trace deeds) ≡ replies deeds
-  unfolding deeds_trace
-  screen-deeds [] = refl
-  screen-deeds (deed ∷ deeds) =
-      deed_shows deed.may_allocate deed.state deed.reply (flat_map deed_trace deeds) ∙ ap (λ bytes. deed.reply ++ bytes) (screen-deeds deeds)
+  pub screen-effects : (effects : List (Effect S)) → screen_bytes (effects_trace effects) ≡ replies effects
+  unfolding effects_trace
+  screen-effects [] = refl
+  screen-effects (effect ∷ effects) =
+      effect_shows effect.may_allocate effect.state effect.reply (flat_map effect_trace effects) ∙ ap (λ bytes. effect.reply ++ bytes) (screen-effects effects)
 
   -- and where they lead
-  deed_leads : (may : Bool) (from state : S) (reply : List ℕ) (more : List (Event S))
-      → fold state_after from ((events_if may (Memory ∷ []) ++ (Act state ∷ Screen reply ∷ [])) ++ more) ≡ fold state_after state more
-  deed_leads true from state reply more = refl
-  deed_leads false from state reply more = refl
+  effect_leads : (may : Bool) (from state : S) (reply : List ℕ) (more : List (Event S))
+      → fold state_after_event from ((events_if may (Memory ∷ []) ++ (Act state ∷ Screen reply ∷ [])) ++ more) ≡ fold state_after_event state more
+  effect_leads true from state reply more = refl
+  effect_leads false from state reply more = refl
 
-  pub state-deeds : (deeds : List (Deed S)) (state : S) → state_behind state (deeds_trace deeds) ≡ left_by state deeds
-  unfolding deeds_trace
-  state-deeds [] state = refl
-  state-deeds (deed ∷ deeds) state =
-      deed_leads deed.may_allocate state deed.state deed.reply (flat_map deed_trace deeds) ∙ state-deeds deeds deed.state
+  pub state-effects : (effects : List (Effect S)) (state : S) → state_after state (effects_trace effects) ≡ left_by state effects
+  unfolding effects_trace
+  state-effects [] state = refl
+  state-effects (effect ∷ effects) state =
+      effect_leads effect.may_allocate state effect.state effect.reply (flat_map effect_trace effects) ∙ state-effects effects effect.state
 
-  -- behind events that show nothing
-  behind_silent : (first more : List (Event S)) → flat_map event_screen first ≡ [] → flat_map event_screen (first ++ more) ≡ flat_map event_screen more
-  behind_silent first more silent = flat_map-append event_screen first more ∙ ap (λ bytes. bytes ++ flat_map event_screen more) silent
+  -- after events that show nothing
+  after_silent : (first more : List (Event S)) → flat_map event_screen first ≡ [] → flat_map event_screen (first ++ more) ≡ flat_map event_screen more
+  after_silent first more silent = flat_map-append event_screen first more ∙ ap (λ bytes. bytes ++ flat_map event_screen more) silent
 
-  module _ (m : Meaning S) (logging : Bool) where
+  module _ (m : Semantics S) (logging : Bool) where
     -- a key shows its echo, what happens, and the prompt of the next line
-    pub screen-stroke : (state : S) (s : Stroke S) → screen_bytes (stroke_trace m logging state s)
+    pub screen-keystroke : (state : S) (s : Keystroke S) → screen_bytes (keystroke_trace m logging state s)
         ≡ s.echo ++ (screen_bytes s.outcome.events
-        ++ screen_bytes {S = S} (events_if s.outcome.begins (opening (m.mode_of (state_behind state s.outcome.events)))))
-    unfolding stroke_trace outcome_trace
-    screen-stroke state s =
-        let begins = events_if s.outcome.begins (opening (m.mode_of (state_behind state s.outcome.events))) in
+        ++ screen_bytes {S = S} (events_if s.outcome.begins (opening (m.mode_of (state_after state s.outcome.events)))))
+    unfolding keystroke_trace outcome_trace
+    screen-keystroke state s =
+        let begins = events_if s.outcome.begins (opening (m.mode_of (state_after state s.outcome.events))) in
         let moment = events_if s.outcome.takes_moment (Moment ∷ []) in
         ap (λ bytes. s.echo ++ bytes)
-        (behind_silent (events_if logging (Log s.log ∷ [])) (moment ++ (s.outcome.events ++ begins)) (silent_log S logging s.log)
-        ∙ behind_silent moment (s.outcome.events ++ begins) (silent_moment S s.outcome.takes_moment)
+        (after_silent (events_if logging (Log s.log ∷ [])) (moment ++ (s.outcome.events ++ begins)) (silent_log S logging s.log)
+        ∙ after_silent moment (s.outcome.events ++ begins) (silent_moment S s.outcome.takes_moment)
         ∙ flat_map-append event_screen s.outcome.events begins)
 
     -- the bytes that these keys show, as far as the run goes on
@@ -87,7 +87,7 @@ module _ {S : Type 0} where
     shown_run state moments keys =
         flat_map-append event_screen (opening (m.mode_of state)) (unless (is_ended (m.mode_of state)) (keys_trace m logging (starting m state moments) keys))
 
-    -- keys in two parts show what the first show, and what the others show behind them
+    -- keys in two parts show what the first show, and what the others show after them
     shown_parts : (first more : List ℕ) (at : RunState S) → keys_shown at (first ++ more) ≡ keys_shown at first ++ keys_shown (progress m at first) more
     unfolding progress
     shown_parts [] more at = ap (λ bytes. bytes ++ keys_shown at more) (sym (shown_none at))

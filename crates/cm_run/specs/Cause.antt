@@ -21,21 +21,21 @@ StopCause before now stop.Keys = Rose before.keys now.keys × (now ≡ record be
 StopCause before now stop.Memory = now ≡ before
 StopCause before now stop.Limit = now ≡ before
 
--- no count rose where the run was not cut short
+-- [run-cause] no count rose where the run was not cut short
 unfoldable pub RunCause : Counts → Counts → Result Unit Stop → Type 0
 RunCause before now (Ok value) = now ≡ before
 RunCause before now (Err why) = StopCause before now why
 
--- a key that is taken is cut short by the screen, by the log or by want of memory
-unfoldable pub StrokeCause : Counts → Counts → Result Unit Stop → Type 0
-StrokeCause before now (Ok value) = now ≡ before
-StrokeCause before now (Err stop.Screen) = StopCause before now stop.Screen
-StrokeCause before now (Err stop.Log) = StopCause before now stop.Log
-StrokeCause before now (Err stop.Memory) = now ≡ before
-StrokeCause before now (Err stop.Keys) = ⊥
-StrokeCause before now (Err stop.Limit) = ⊥
+-- a key that is taken is cut short by the screen, by the log or by lack of memory
+unfoldable pub KeystrokeCause : Counts → Counts → Result Unit Stop → Type 0
+KeystrokeCause before now (Ok value) = now ≡ before
+KeystrokeCause before now (Err stop.Screen) = StopCause before now stop.Screen
+KeystrokeCause before now (Err stop.Log) = StopCause before now stop.Log
+KeystrokeCause before now (Err stop.Memory) = now ≡ before
+KeystrokeCause before now (Err stop.Keys) = ⊥
+KeystrokeCause before now (Err stop.Limit) = ⊥
 
--- acts are cut short by the screen, whose count rose then, or by want of memory
+-- acts are cut short by the screen, whose count rose then, or by lack of memory
 unfoldable pub ObeyCause : ℕ → ℕ → Result Unit Stop → Type 0
 ObeyCause before now (Ok value) = now ≡ before
 ObeyCause before now (Err stop.Screen) = Rose before now
@@ -50,6 +50,7 @@ abbrev pub OverCount : ℕ → ℕ → ℕ → Bool → Type 0
 OverCount limit before now true = before ≤ now + limit
 OverCount limit before now false = before < now + limit
 
+-- [key-limit]
 unfoldable pub KeyCount : ℕ → ℕ → ℕ → Bool → Result Unit Stop → Type 0
 KeyCount limit before now ended (Ok value) = OverCount limit before now ended
 KeyCount limit before now ended (Err stop.Limit) = (before ≡ now + limit) × (ended ≡ false)

@@ -3,7 +3,7 @@ use Rattle.std.specs.Prelude.{◌≡◌, ℕ, List, [], ◌∷◌, ◌++◌, Res
 use Rattle.cm_run.specs.declared.stop.Stop.{Stop}
 use Rattle.cm_run.specs.declared.stop.Stop.TheVariants as stop
 use Rattle.cm_run.specs.Event.{Event, Ask, Key, End, Screen, Log, Memory}
-use Rattle.cm_run.specs.Observed.{Observed, Performs}
+use Rattle.cm_run.specs.Observation.{Observation, Performs}
 
 -- how an event is cut short: the screen, or the log, takes a part of its bytes, and not the rest; a key, or that none
 -- is left, is not told; memory is not given; a key is not asked for, since as many are taken as may be
@@ -43,8 +43,8 @@ module _ {S : Type 0} where
   part_of MemoryCut = []
   part_of LimitCut = []
 
-  -- all events before one have happened, that one in part, and nothing behind it
-  pub record IsCut (why : Stop) (before now : Observed S) (events : List (Event S)) : Type 0 where
+  -- all events before one have happened, that one in part, and nothing after it
+  pub record IsCut (why : Stop) (before now : Observation S) (events : List (Event S)) : Type 0 where
     pub done : List (Event S)
     pub cut : Cut
     pub rest : List (Event S)
@@ -53,6 +53,6 @@ module _ {S : Type 0} where
     pub stands : Performs before now (done ++ part_of cut)
 
   -- the events happen, or are cut short
-  unfoldable pub Traces : Observed S → Observed S → List (Event S) → Result Unit Stop → Type 0
+  unfoldable pub Traces : Observation S → Observation S → List (Event S) → Result Unit Stop → Type 0
   Traces before now events (Ok value) = Performs before now events
   Traces before now events (Err why) = IsCut why before now events

@@ -38,20 +38,20 @@ module _ {S : Type 0} where
   event_trials (Trials cost) = cost
   event_trials event = 0
 
-  -- how often keys were asked for behind it
-  abbrev pub gets_after : ℕ → Event S → ℕ
-  gets_after gets Ask = next_count gets
-  gets_after gets event = gets
+  -- how often keys were asked for after it
+  abbrev pub gets_after_event : ℕ → Event S → ℕ
+  gets_after_event gets Ask = next_count gets
+  gets_after_event gets event = gets
 
-  -- the moments to come behind it
-  abbrev pub moments_after : List ℕ → Event S → List ℕ
-  moments_after moments Moment = later_moments moments
-  moments_after moments event = moments
+  -- the moments to come after it
+  abbrev pub moments_after_event : List ℕ → Event S → List ℕ
+  moments_after_event moments Moment = later_moments moments
+  moments_after_event moments event = moments
 
-  -- the state behind it
-  abbrev pub state_after : S → Event S → S
-  state_after state (Act left) = left
-  state_after state event = state
+  -- the state after it
+  abbrev pub state_after_event : S → Event S → S
+  state_after_event state (Act left) = left
+  state_after_event state event = state
 
   -- the same of events in order
   abbrev pub screen_bytes : List (Event S) → List ℕ
@@ -66,11 +66,11 @@ module _ {S : Type 0} where
   abbrev pub trials_of : List (Event S) → ℕ
   trials_of events = sum_by event_trials events
 
-  abbrev pub gets_behind : ℕ → List (Event S) → ℕ
-  gets_behind gets events = fold gets_after gets events
+  abbrev pub gets_after : ℕ → List (Event S) → ℕ
+  gets_after gets events = fold gets_after_event gets events
 
-  abbrev pub moments_behind : List ℕ → List (Event S) → List ℕ
-  moments_behind moments events = fold moments_after moments events
+  abbrev pub moments_after : List ℕ → List (Event S) → List ℕ
+  moments_after moments events = fold moments_after_event moments events
 
-  abbrev pub state_behind : S → List (Event S) → S
-  state_behind state events = fold state_after state events
+  abbrev pub state_after : S → List (Event S) → S
+  state_after state events = fold state_after_event state events

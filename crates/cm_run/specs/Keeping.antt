@@ -6,7 +6,7 @@ use Rattle.cm_state.specs.SessionState.{SessionState}
 use Rattle.cm_run.specs.declared.mode.Mode.{Mode}
 use Rattle.cm_run.specs.declared.mode.Mode.TheVariants as mode
 use Rattle.cm_run.specs.Event.{screen_bytes}
-use Rattle.cm_run.specs.Meaning.{Meaning}
+use Rattle.cm_run.specs.Semantics.{Semantics}
 use Rattle.cm_run.specs.Obey.{left_by, replies}
 use Rattle.cm_run.specs.Progress.{progress}
 use Rattle.cm_run.specs.Trace.{RunState, run_trace, starting}
@@ -25,16 +25,17 @@ is_line mode.Raw = false
 is_line mode.Ended = false
 
 -- an application whose prompts are printed; what a line shows in all ends with a line feed, or is nothing, and so does
--- what a line of a command file shows; and a raw key behind which a line begins shows, with what it does, bytes that
+-- what a line of a command file shows; and a raw key after which a line begins shows, with what it does, bytes that
 -- end with a line feed
-pub record IsLineKeeping {S : Type 0} (m : Meaning S) : Type 0 where
+pub record IsLineKeeping {S : Type 0} (m : Semantics S) : Type 0 where
   pub prompts : (state : S) → HasPrintedPrompt (m.mode_of state)
-  pub lines : (state : S) (session : SessionState) (moment : ℕ) → EndsLine (replies (m.line_deeds state session moment))
+  pub lines : (state : S) (session : SessionState) (moment : ℕ)
+      → EndsLine (replies (m.line_effects state session moment))
   pub file_lines : (state : S) (session : SessionState) (moment : ℕ)
-      → EndsLine (replies (m.file_line_deeds state session moment))
+      → EndsLine (replies (m.file_line_effects state session moment))
   pub raw_keys : (state : S) (key : ℕ) → m.mode_of state ≡ mode.Raw
-      → is_line (m.mode_of (left_by state (m.raw_deeds state key))) ≡ true
-      → IsEnded (m.raw_echo state key ++ replies (m.raw_deeds state key))
+      → is_line (m.mode_of (left_by state (m.raw_effects state key))) ≡ true
+      → IsEnded (m.raw_echo state key ++ replies (m.raw_effects state key))
 
 -- where the next key is for a line, the display shows prompt and line
 abbrev pub ShowsIn : {D : Type 0} → (D → List ℕ → Type 0) → Mode → D → SessionState → Type 0
@@ -42,13 +43,13 @@ ShowsIn Holds (mode.Line node prompt takes_moment) display session = Shows Holds
 ShowsIn Holds mode.Raw display session = Unit {0}
 ShowsIn Holds mode.Ended display session = Unit {0}
 
--- behind these bytes, so many as a run has shown by then
-abbrev pub ShowsAt : {D S : Type 0} → (D → List ℕ → D) → (D → List ℕ → Type 0) → Meaning S → D → List ℕ → RunState S
+-- after these bytes, so many as a run has shown by then
+abbrev pub ShowsAt : {D S : Type 0} → (D → List ℕ → D) → (D → List ℕ → Type 0) → Semantics S → D → List ℕ → RunState S
     → Type 0
 ShowsAt feed Holds m display bytes at = ShowsIn Holds (m.mode_of at.state) (feed display bytes) at.session
 
 -- on a display that holds nothing, all that the run over these keys shows leaves prompt and line as they then are
-unfoldable pub KeepsLine : {D S : Type 0} → (D → List ℕ → D) → (D → List ℕ → Type 0) → Meaning S → S → List ℕ → List ℕ
+unfoldable pub KeepsLine : {D S : Type 0} → (D → List ℕ → D) → (D → List ℕ → Type 0) → Semantics S → S → List ℕ → List ℕ
     → Type 0
 KeepsLine {D = D} feed Holds m state moments keys = (logging : Bool) (display : D) → Holds display []
     → ShowsAt feed Holds m display (screen_bytes (run_trace m logging state moments keys))

@@ -13,12 +13,12 @@ pub trait Application {
     ghost use Rattle.std.specs.Prelude.{◌≡◌, ◌≤◌, IfSome, option_copied};
     ghost use Rattle.cm_text.specs.Text.{IsLine};
     ghost use Rattle.cm_io.specs.Fault.{PutCause};
-    ghost use Rattle.cm_io.specs.Told.{Adds};
+    ghost use Rattle.cm_io.specs.Contents.{Adds};
     ghost use Rattle.cm_blocks.specs.Parse.{IsParse};
     ghost use Rattle.cm_blocks.specs.declared.field.Ending.TheVariants as ending;
     ghost use Rattle.cm_state.specs.SessionState.{text_of};
     ghost use Rattle.cm_run.specs.Cause.{ObeyCause};
-    ghost use Rattle.cm_run.specs.Meaning.{IsLineAt, IsModeOf, Meaning, setting_of};
+    ghost use Rattle.cm_run.specs.Semantics.{IsLineAt, IsModeOf, Semantics, setting_of};
     ghost use Rattle.cm_run.specs.Obey.{Obeys, stage};
 
     /// What it says of its own kinds of field.
@@ -28,7 +28,7 @@ pub trait Application {
     type Names: Names;
 
     /// What it means.
-    ghost means: { Meaning Self };
+    ghost means: { Semantics Self };
 
     /// The directories and files that a line may name now.
     fn names(&self) -> &Self::Names
@@ -56,13 +56,14 @@ pub trait Application {
         requires line { IsLineAt (means.mode_of self.old) session.now.node }
         requires parse { IsParse (setting_of means self.old) session.now.node (text_of session.now)
             session.now.fields ending.Done }
-        ensures obeys { Obeys (stage (S.told screen.old) self.old) (stage (S.told screen.new) self.new)
-            (means.line_deeds self.old session.now moment) result }
+        ensures obeys { Obeys (stage (S.contents screen.old) self.old) (stage (S.contents screen.new) self.new)
+            (means.line_effects self.old session.now moment) result }
         ensures later { S.faults screen.old ≤ S.faults screen.new }
         ensures cause { ObeyCause (S.faults screen.old) (S.faults screen.new) result };
 
     /// A line was refused by the parser, and why is shown.
     fn refuse(&mut self)
+        // [refused-line]
         ensures { self.new ≡ means.refusal self.old };
 
     /// A line was given up.
@@ -71,14 +72,14 @@ pub trait Application {
 
     /// Shows what a raw key does, and does nothing yet.
     fn echo_raw<S: Sink>(&self, key: u8, screen: &mut S) -> Put
-        ensures bytes { Adds (S.told screen.old) (S.told screen.new) (means.raw_echo self.now key) result }
+        ensures bytes { Adds (S.contents screen.old) (S.contents screen.new) (means.raw_echo self.now key) result }
         ensures later { S.faults screen.old ≤ S.faults screen.new }
         ensures cause { PutCause (S.faults screen.old) (S.faults screen.new) result };
 
     /// Takes a raw key.
     fn obey_raw<S: Sink>(&mut self, key: u8, screen: &mut S) -> Result<(), Stop>
-        ensures obeys { Obeys (stage (S.told screen.old) self.old) (stage (S.told screen.new) self.new)
-            (means.raw_deeds self.old key) result }
+        ensures obeys { Obeys (stage (S.contents screen.old) self.old) (stage (S.contents screen.new) self.new)
+            (means.raw_effects self.old key) result }
         ensures later { S.faults screen.old ≤ S.faults screen.new }
         ensures cause { ObeyCause (S.faults screen.old) (S.faults screen.new) result };
 
@@ -87,7 +88,7 @@ pub trait Application {
         ensures value { option_copied result ≡ means.file_line self.now }
         ensures line { IfSome (option_copied result) IsLine };
 
-    /// Does what that line comes to, which was parsed so: what it commands, or where its parse ends in a fault its
+    /// Does what that line says, which was parsed so: what it commands, or where its parse ends in a fault its
     /// refusal. The moment is that of the line that took the file.
     fn obey_file_line<S: Sink>(
         &mut self,
@@ -100,8 +101,8 @@ pub trait Application {
         requires line { IsLineAt (means.mode_of self.old) session.now.node }
         requires parse { IsParse (setting_of means self.old) session.now.node (text_of session.now)
             session.now.fields session.now.ending }
-        ensures obeys { Obeys (stage (S.told screen.old) self.old) (stage (S.told screen.new) self.new)
-            (means.file_line_deeds self.old session.now moment) result }
+        ensures obeys { Obeys (stage (S.contents screen.old) self.old) (stage (S.contents screen.new) self.new)
+            (means.file_line_effects self.old session.now moment) result }
         ensures later { S.faults screen.old ≤ S.faults screen.new }
         ensures cause { ObeyCause (S.faults screen.old) (S.faults screen.new) result };
 }

@@ -8,10 +8,10 @@ pub trait Display {
     /// What it is at a moment.
     ghost State: { Type 0 };
 
-    /// What it is behind these bytes.
+    /// What it is after these bytes.
     ghost feed: { State → List ℕ → State };
 
-    /// The row that it writes on is this text, and the next byte goes behind it.
+    /// The row that it writes on is this text, and the next byte goes after it.
     ghost holds: { State → List ℕ → Type 0 };
 
     /// It does with printed bytes, bells, rubouts and line feeds what a display does.

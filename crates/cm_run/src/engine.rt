@@ -2,9 +2,9 @@
 ghost use Rattle.std.specs.Prelude.{◌≡◌, ◌≢◌, ◌≤◌, ◌+◌, ◌++◌, List, ℕ, Err, Ok, false, length, IsTrue};
 ghost use Rattle.cm_run.specs.Cause.{KeyCount, RunCause, counts};
 ghost use Rattle.cm_run.specs.Cut.{Traces};
-ghost use Rattle.cm_run.specs.Meaning.{IsSparing, setting_of};
+ghost use Rattle.cm_run.specs.Semantics.{IsSparing, setting_of};
 ghost use Rattle.cm_run.specs.Moments.{RunsTo};
-ghost use Rattle.cm_run.specs.Observed.{observed};
+ghost use Rattle.cm_run.specs.Observation.{observation};
 ghost use Rattle.cm_run.specs.Progress.{MeetSound};
 ghost use Rattle.cm_run.specs.Sound.{IsSound};
 ghost use Rattle.cm_run.specs.Trace.{is_ended, run_trace, starting};
@@ -23,8 +23,8 @@ use std::sync::ledger::Ledger;
 pub const FILE_LINES: u32 = 10_000;
 
 /// Runs an application: shows the first prompt and takes the keys in turn, until the application has ended, no key is
-/// left, as many are taken as the limit says, the outside fails, or memory is wanting. Nothing is asked of the outside
-/// behind a call that failed.
+/// left, as many are taken as the limit says, the outside fails, or memory runs out. Nothing is asked of the outside
+/// after a call that failed.
 pub fn run<A: Application, K: Source, S: Sink, W: Sink, C: Clock, L: Ledger>(
     limit: u64,
     logging: bool,
@@ -38,19 +38,20 @@ pub fn run<A: Application, K: Source, S: Sink, W: Sink, C: Clock, L: Ledger>(
 ) -> Result<(), Stop>
     // The grammar is that of the application.
     requires grammar { grammar.now ≡ A.means.graph }
-    // What stands is the trace of the run, or a cut of it.
+    // [run-trace] What stands is the trace of the run, or a cut of it.
     ensures traces { IsTrue K.tells → IsTrue C.tells → Traces
-        (observed (S.told screen.old) (W.told log.old) (K.left keys.old) (K.gets keys.old) (C.left clock.old)
+        (observation (S.contents screen.old) (W.contents log.old) (K.left keys.old) (K.gets keys.old) (C.left clock.old)
         steps.old app.old)
-        (observed (S.told screen.new) (W.told log.new) (K.left keys.new) (K.gets keys.new) (C.left clock.new)
+        (observation (S.contents screen.new) (W.contents log.new) (K.left keys.new) (K.gets keys.new) (C.left clock.new)
         steps.new app.new)
         (run_trace A.means logging app.old (C.left clock.old) (K.left keys.old)) result }
+    // [run-cause]
     ensures cause { RunCause
         (counts (S.faults screen.old) (W.faults log.old) (K.faults keys.old))
         (counts (S.faults screen.new) (W.faults log.new) (K.faults keys.new)) result }
     // How many gets were asked, also of a source that tells nothing of its keys.
     ensures asked { K.gets keys.new ≤ K.gets keys.old + limit }
-    // How many keys were taken.
+    // [key-limit] How many keys were taken.
     ensures count { IsTrue K.tells → KeyCount limit (length (K.left keys.old)) (length (K.left keys.new))
         (is_ended (A.means.mode_of app.new)) result }
     // Where it went to its end, the keys that were taken lead to the state that is left, at the moments given:
@@ -58,12 +59,13 @@ pub fn run<A: Application, K: Source, S: Sink, W: Sink, C: Clock, L: Ledger>(
     ensures leads { IsTrue K.tells → result ≡ Ok tt
         → RunsTo A.means app.old app.new (K.left keys.old) (K.left keys.new) }
     // Without a log nothing is put on it.
-    ensures quiet { logging ≡ false → (W.told log.new ≡ W.told log.old) × (W.faults log.new ≡ W.faults log.old) }
+    ensures quiet { logging ≡ false
+        → (W.contents log.new ≡ W.contents log.old) × (W.faults log.new ≡ W.faults log.old) }
     // What each key that was taken met is sound.
     ensures sound { IsTrue K.tells → IsTrue C.tells → (first rest : List ℕ)
         → (first ++ rest) ++ K.left keys.new ≡ K.left keys.old
         → MeetSound A.means (starting A.means app.old (C.left clock.old)) first }
-    // Where memory may be wanting for no act, it is not.
+    // Where memory may run out for no act, it is not.
     ensures spares { IsSparing A.means → result ≢ Err Stop.Memory }
 {
     let mut session = Session::new();

@@ -1,25 +1,25 @@
 // What one key of a run does.
 ghost use Rattle.std.specs.Prelude.{◌≡◌, ◌≢◌, Err, ◌+◌, ℕ, List, None, Ok, IsTrue, true, false};
 ghost use Rattle.cm_io.specs.Fault.{PutCause};
-ghost use Rattle.cm_io.specs.Told.{Adds, Told};
+ghost use Rattle.cm_io.specs.Contents.{Adds, Contents};
 ghost use Rattle.cm_io.specs.Writer.{Writes};
 ghost use Rattle.cm_line.specs.Keys.{class_at};
 ghost use Rattle.cm_blocks.specs.Fault.{grammar_fault};
-ghost use Rattle.cm_blocks.specs.Kept.{cost};
+ghost use Rattle.cm_blocks.specs.KeptParse.{cost};
 ghost use Rattle.cm_blocks.specs.Parse.{IsParse};
 ghost use Rattle.cm_blocks.specs.declared.field.Ending.TheVariants as ending;
 ghost use Rattle.cm_state.specs.Echo.{echo};
 ghost use Rattle.cm_state.specs.Edit.{edited};
 ghost use Rattle.cm_state.specs.Log.{log_line};
-ghost use Rattle.cm_state.specs.SessionState.{IsReady, met_line, text_of};
+ghost use Rattle.cm_state.specs.SessionState.{IsReady, line_before, text_of};
 ghost use Rattle.cm_state.specs.Turn.{put_of, turn_of};
-ghost use Rattle.cm_run.specs.Cause.{ObeyCause, StrokeCause, counts};
+ghost use Rattle.cm_run.specs.Cause.{KeystrokeCause, ObeyCause, counts};
 ghost use Rattle.cm_run.specs.Cut.{Traces};
-ghost use Rattle.cm_run.specs.Meaning.{IsLineAt, IsSparing, setting_of};
+ghost use Rattle.cm_run.specs.Semantics.{IsLineAt, IsSparing, setting_of};
 ghost use Rattle.cm_run.specs.Moments.{Leads};
-ghost use Rattle.cm_run.specs.Observed.{observed};
+ghost use Rattle.cm_run.specs.Observation.{observation};
 ghost use Rattle.cm_run.specs.Ready.{IsAtLine, IsReadyIn};
-ghost use Rattle.cm_run.specs.Trace.{key_trace, line_stroke, moment_at, moments_later, outcome_trace, raw_log, raw_mark, raw_stroke, run_state, step, step_by, step_of, stroke_trace, takes_moment, turn_outcome};
+ghost use Rattle.cm_run.specs.Trace.{key_trace, keystroke_trace, line_keystroke, moment_at, moments_later, outcome_trace, raw_keystroke, raw_log, raw_mark, run_state, step, step_by, step_of, takes_moment, turn_outcome};
 
 use crate::line::{confirm_line, open_line};
 use crate::{Application, Mode, Stop};
@@ -28,7 +28,7 @@ use cm_io::{Clock, Put, Sink, Writer};
 use cm_state::{Session, Turn};
 use std::sync::ledger::Ledger;
 
-/// Takes one key of a run that has not ended: shows its echo, logs it, and only then does what it came to.
+/// Takes one key of a run that has not ended: shows its echo, logs it, and only then does what it asks for.
 #[tactic(auto, unfolding(crate::specs::Ready::IsReadyIn))]
 pub(crate) fn handle_key<A: Application, S: Sink, W: Sink, C: Clock, L: Ledger>(
     logging: bool,
@@ -45,16 +45,17 @@ pub(crate) fn handle_key<A: Application, S: Sink, W: Sink, C: Clock, L: Ledger>(
     requires faultless { grammar_fault A.means.graph ≡ None }
     requires ready { IsReadyIn A.means app.old session.old }
     ensures traces { IsTrue C.tells → (keys : List ℕ) → (gets : ℕ) → Traces
-        (observed (S.told screen.old) (W.told log.old) keys gets (C.left clock.old) steps.old app.old)
-        (observed (S.told screen.new) (W.told log.new) keys gets (C.left clock.new) steps.new app.new)
+        (observation (S.contents screen.old) (W.contents log.old) keys gets (C.left clock.old) steps.old app.old)
+        (observation (S.contents screen.new) (W.contents log.new) keys gets (C.left clock.new) steps.new app.new)
         (key_trace A.means logging (run_state session.old app.old (C.left clock.old)) key) result }
     ensures next { IsTrue C.tells → result ≡ Ok tt → run_state session.new app.new (C.left clock.new)
         ≡ step A.means (run_state session.old app.old (C.left clock.old)) key }
     ensures leads { result ≡ Ok tt → Leads (λ moments. step A.means (run_state session.old app.old moments) key)
         session.new app.new }
     ensures ready { result ≡ Ok tt → IsReadyIn A.means app.new session.new }
-    ensures quiet { logging ≡ false → (W.told log.new ≡ W.told log.old) × (W.faults log.new ≡ W.faults log.old) }
-    ensures cause { (keys : ℕ) → StrokeCause (counts (S.faults screen.old) (W.faults log.old) keys)
+    ensures quiet { logging ≡ false
+        → (W.contents log.new ≡ W.contents log.old) × (W.faults log.new ≡ W.faults log.old) }
+    ensures cause { (keys : ℕ) → KeystrokeCause (counts (S.faults screen.old) (W.faults log.old) keys)
         (counts (S.faults screen.new) (W.faults log.new) keys) result }
     ensures spares { IsSparing A.means → result ≢ Err Stop.Memory }
 {
@@ -67,7 +68,7 @@ pub(crate) fn handle_key<A: Application, S: Sink, W: Sink, C: Clock, L: Ledger>(
     }
 }
 
-// Takes a key of a line: edits it, and does what it came to.
+// Takes a key of a line: edits it, and does what it asks for.
 #[tactic(auto, using(crate::proofs::Causes::acts_cause, crate::proofs::Causes::echo_cause, crate::proofs::Causes::log_cause))]
 fn handle_line_key<A: Application, S: Sink, W: Sink, C: Clock, L: Ledger>(
     logging: bool,
@@ -84,18 +85,19 @@ fn handle_line_key<A: Application, S: Sink, W: Sink, C: Clock, L: Ledger>(
     requires faultless { grammar_fault A.means.graph ≡ None }
     requires at { IsAtLine A.means app.old session.old }
     ensures traces { IsTrue C.tells → (keys : List ℕ) → (gets : ℕ) → Traces
-        (observed (S.told screen.old) (W.told log.old) keys gets (C.left clock.old) steps.old app.old)
-        (observed (S.told screen.new) (W.told log.new) keys gets (C.left clock.new) steps.new app.new)
-        (stroke_trace A.means logging app.old
-        (line_stroke A.means (run_state session.old app.old (C.left clock.old)) key)) result }
+        (observation (S.contents screen.old) (W.contents log.old) keys gets (C.left clock.old) steps.old app.old)
+        (observation (S.contents screen.new) (W.contents log.new) keys gets (C.left clock.new) steps.new app.new)
+        (keystroke_trace A.means logging app.old
+        (line_keystroke A.means (run_state session.old app.old (C.left clock.old)) key)) result }
     ensures next { IsTrue C.tells → result ≡ Ok tt → run_state session.new app.new (C.left clock.new)
         ≡ step_by A.means (run_state session.old app.old (C.left clock.old))
-        (line_stroke A.means (run_state session.old app.old (C.left clock.old)) key) }
+        (line_keystroke A.means (run_state session.old app.old (C.left clock.old)) key) }
     ensures leads { result ≡ Ok tt → Leads (λ moments. step_by A.means (run_state session.old app.old moments)
-        (line_stroke A.means (run_state session.old app.old moments) key)) session.new app.new }
+        (line_keystroke A.means (run_state session.old app.old moments) key)) session.new app.new }
     ensures ready { result ≡ Ok tt → IsReadyIn A.means app.new session.new }
-    ensures quiet { logging ≡ false → (W.told log.new ≡ W.told log.old) × (W.faults log.new ≡ W.faults log.old) }
-    ensures cause { (keys : ℕ) → StrokeCause (counts (S.faults screen.old) (W.faults log.old) keys)
+    ensures quiet { logging ≡ false
+        → (W.contents log.new ≡ W.contents log.old) × (W.faults log.new ≡ W.faults log.old) }
+    ensures cause { (keys : ℕ) → KeystrokeCause (counts (S.faults screen.old) (W.faults log.old) keys)
         (counts (S.faults screen.new) (W.faults log.new) keys) result }
     ensures spares { IsSparing A.means → result ≢ Err Stop.Memory }
 {
@@ -128,21 +130,22 @@ fn edit_line<A: Application, S: Sink, L: Ledger>(
     ensures ready { IsReady (setting_of A.means app.now) session.new }
     ensures node { session.new.node ≡ session.old.node }
     ensures turn { put_of result ≡ Put.Done
-        → result ≡ turn_of (class_at (met_line session.old) key) session.new.ending }
-    ensures bytes { Adds (S.told screen.old) (S.told screen.new)
+        → result ≡ turn_of (class_at (line_before session.old) key) session.new.ending }
+    ensures bytes { Adds (S.contents screen.old) (S.contents screen.new)
         (echo (setting_of A.means app.now) session.old key) (put_of result) }
     ensures cause { PutCause (S.faults screen.old) (S.faults screen.new) (put_of result) }
     ensures steps { steps.new ≡ steps.old
-        + cost (setting_of A.means app.now) session.old.node (met_line session.old) (text_of session.new) }
+        + cost (setting_of A.means app.now) session.old.node (line_before session.old) (text_of session.new) }
 {
     session.key(key, grammar, app.names(), app.rules(), screen, steps)
 }
 
 // Logs a key of a line, where there is a log.
 fn log_line<W: Sink>(logging: bool, key: u8, session: &Session, log: &mut W) -> Put
-    ensures bytes { logging ≡ true → Adds (W.told log.old) (W.told log.new) (log_line key session.now) result }
+    ensures bytes { logging ≡ true → Adds (W.contents log.old) (W.contents log.new) (log_line key session.now) result }
     ensures nothing { logging ≡ false → result ≡ Put.Done }
-    ensures quiet { logging ≡ false → (W.told log.new ≡ W.told log.old) × (W.faults log.new ≡ W.faults log.old) }
+    ensures quiet { logging ≡ false
+        → (W.contents log.new ≡ W.contents log.old) × (W.faults log.new ≡ W.faults log.old) }
     ensures cause { PutCause (W.faults log.old) (W.faults log.new) result }
 {
     if logging {
@@ -152,7 +155,7 @@ fn log_line<W: Sink>(logging: bool, key: u8, session: &Session, log: &mut W) -> 
     }
 }
 
-// Does what a key of a line came to: a confirmed line acts, and behind a line that is finished or given up the next
+// Does what a key of a line asks for: a confirmed line acts, and after a line that is finished or given up the next
 // begins.
 #[tactic(auto, using(crate::proofs::Outcomes::edits, crate::proofs::Outcomes::fails, crate::proofs::Outcomes::refuses, crate::proofs::Outcomes::abandons, crate::proofs::Outcomes::edits_next, crate::proofs::Outcomes::fails_next, crate::proofs::Outcomes::refuses_next, crate::proofs::Outcomes::abandons_next), unfolding(crate::specs::Cause::ObeyCause, crate::specs::Ready::IsReadyIn))]
 fn finish_key<A: Application, S: Sink, C: Clock, L: Ledger>(
@@ -169,9 +172,9 @@ fn finish_key<A: Application, S: Sink, C: Clock, L: Ledger>(
     requires at { IsAtLine A.means app.old session.old }
     requires parse { turn ≡ Turn.Confirmed → IsParse (setting_of A.means app.old) session.old.node
         (text_of session.old) session.old.fields ending.Done }
-    ensures traces { IsTrue C.tells → (log : Told) → (keys : List ℕ) → (gets : ℕ) → Traces
-        (observed (S.told screen.old) log keys gets (C.left clock.old) steps.old app.old)
-        (observed (S.told screen.new) log keys gets (C.left clock.new) steps.new app.new)
+    ensures traces { IsTrue C.tells → (log : Contents) → (keys : List ℕ) → (gets : ℕ) → Traces
+        (observation (S.contents screen.old) log keys gets (C.left clock.old) steps.old app.old)
+        (observation (S.contents screen.new) log keys gets (C.left clock.new) steps.new app.new)
         (outcome_trace A.means app.old (turn_outcome A.means app.old session.old
         (moment_at A.means app.old (C.left clock.old)) turn)) result }
     ensures next { IsTrue C.tells → result ≡ Ok tt → run_state session.new app.new (C.left clock.new)
@@ -227,9 +230,9 @@ fn act<A: Application, S: Sink, C: Clock, L: Ledger>(
     requires line { IsLineAt (A.means.mode_of app.old) session.old.node }
     requires parse { IsParse (setting_of A.means app.old) session.old.node (text_of session.old) session.old.fields
         ending.Done }
-    ensures traces { IsTrue C.tells → (log : Told) → (keys : List ℕ) → (gets : ℕ) → Traces
-        (observed (S.told screen.old) log keys gets (C.left clock.old) steps.old app.old)
-        (observed (S.told screen.new) log keys gets (C.left clock.new) steps.new app.new)
+    ensures traces { IsTrue C.tells → (log : Contents) → (keys : List ℕ) → (gets : ℕ) → Traces
+        (observation (S.contents screen.old) log keys gets (C.left clock.old) steps.old app.old)
+        (observation (S.contents screen.new) log keys gets (C.left clock.new) steps.new app.new)
         (outcome_trace A.means app.old (turn_outcome A.means app.old session.old
         (moment_at A.means app.old (C.left clock.old)) Turn.Confirmed)) result }
     ensures next { IsTrue C.tells → result ≡ Ok tt → run_state session.new app.new (C.left clock.new)
@@ -261,15 +264,17 @@ fn handle_raw_key<A: Application, S: Sink, W: Sink>(
 ) -> Result<(), Stop>
     requires faultless { grammar_fault A.means.graph ≡ None }
     ensures traces { (keys : List ℕ) → (gets : ℕ) → (moments : List ℕ) → (trials : ℕ) → Traces
-        (observed (S.told screen.old) (W.told log.old) keys gets moments trials app.old)
-        (observed (S.told screen.new) (W.told log.new) keys gets moments trials app.new)
-        (stroke_trace A.means logging app.old (raw_stroke A.means (run_state session.old app.old moments) key)) result }
+        (observation (S.contents screen.old) (W.contents log.old) keys gets moments trials app.old)
+        (observation (S.contents screen.new) (W.contents log.new) keys gets moments trials app.new)
+        (keystroke_trace A.means logging app.old
+        (raw_keystroke A.means (run_state session.old app.old moments) key)) result }
     ensures next { (moments : List ℕ) → result ≡ Ok tt → run_state session.new app.new moments
         ≡ step_by A.means (run_state session.old app.old moments)
-        (raw_stroke A.means (run_state session.old app.old moments) key) }
+        (raw_keystroke A.means (run_state session.old app.old moments) key) }
     ensures ready { result ≡ Ok tt → IsReadyIn A.means app.new session.new }
-    ensures quiet { logging ≡ false → (W.told log.new ≡ W.told log.old) × (W.faults log.new ≡ W.faults log.old) }
-    ensures cause { (keys : ℕ) → StrokeCause (counts (S.faults screen.old) (W.faults log.old) keys)
+    ensures quiet { logging ≡ false
+        → (W.contents log.new ≡ W.contents log.old) × (W.faults log.new ≡ W.faults log.old) }
+    ensures cause { (keys : ℕ) → KeystrokeCause (counts (S.faults screen.old) (W.faults log.old) keys)
         (counts (S.faults screen.new) (W.faults log.new) keys) result }
     ensures spares { IsSparing A.means → result ≢ Err Stop.Memory }
 {
@@ -287,9 +292,10 @@ fn handle_raw_key<A: Application, S: Sink, W: Sink>(
 
 // Logs a raw key, where there is a log.
 fn log_raw<W: Sink>(logging: bool, key: u8, log: &mut W) -> Put
-    ensures bytes { logging ≡ true → Adds (W.told log.old) (W.told log.new) (raw_log key) result }
+    ensures bytes { logging ≡ true → Adds (W.contents log.old) (W.contents log.new) (raw_log key) result }
     ensures nothing { logging ≡ false → result ≡ Put.Done }
-    ensures quiet { logging ≡ false → (W.told log.new ≡ W.told log.old) × (W.faults log.new ≡ W.faults log.old) }
+    ensures quiet { logging ≡ false
+        → (W.contents log.new ≡ W.contents log.old) × (W.faults log.new ≡ W.faults log.old) }
     ensures cause { PutCause (W.faults log.old) (W.faults log.new) result }
 {
     if logging {
@@ -300,12 +306,12 @@ fn log_raw<W: Sink>(logging: bool, key: u8, log: &mut W) -> Put
 }
 
 fn put_raw_log<W: Sink>(key: u8, log: &mut W) -> Put
-    ensures bytes { Adds (W.told log.old) (W.told log.new) (raw_log key) result }
+    ensures bytes { Adds (W.contents log.old) (W.contents log.new) (raw_log key) result }
     ensures cause { PutCause (W.faults log.old) (W.faults log.new) result }
 {
     let mut out = Writer::new(log);
     write_raw_log(key, &mut out);
-    out.went()
+    out.outcome()
 }
 
 // Writes `KEY data`, the key as two hexadecimal digits, and a line feed.

@@ -1,14 +1,14 @@
 // Laws of every run, whatever the application, and of what displays show of it.
 ghost use Rattle.std.specs.Prelude.{◌≡◌, ◌⊎◌, ◌+◌, ◌<◌, ◌^◌, ◌-◌, ℕ, Bool, false, List, [], ◌∷◌, ◌++◌, None, Result, Ok, Err, Option, IfSome, map};
-ghost use Rattle.cm_text.specs.Shown.{screen_byte};
+ghost use Rattle.cm_text.specs.ScreenBytes.{screen_byte};
 ghost use Rattle.cm_text.specs.Text.{IsLine};
 ghost use Rattle.cm_text.specs.declared.text.TheConstants.{JOIN};
-ghost use Rattle.cm_io.specs.Told.{AddsPart, IsPart};
+ghost use Rattle.cm_io.specs.Contents.{AddsPart, IsPart};
 ghost use Rattle.cm_io.specs.Display.{ArePrinted};
 ghost use Rattle.cm_line.specs.Keys.{class_at};
 ghost use Rattle.cm_blocks.specs.declared.field.Fault.{Fault};
 ghost use Rattle.cm_blocks.specs.Setting.{Setting};
-ghost use Rattle.cm_state.specs.SessionState.{SessionState, at_start, met_line};
+ghost use Rattle.cm_state.specs.SessionState.{SessionState, at_start, line_before};
 ghost use Rattle.cm_state.specs.declared.turn.Turn.{Turn};
 ghost use Rattle.cm_state.specs.declared.turn.Turn.TheVariants as turn;
 ghost use Rattle.cm_state.specs.declared.prompt.Prompt.{Prompt};
@@ -17,15 +17,15 @@ ghost use Rattle.cm_state.specs.Echo.{echo, has_join, prompt_text};
 ghost use Rattle.cm_state.specs.Edit.{edited};
 ghost use Rattle.cm_run.specs.Cause.{Counts, KeyCount, RunCause};
 ghost use Rattle.cm_run.specs.Cut.{Traces};
-ghost use Rattle.cm_run.specs.Event.{Act, Event, Log, Screen, Trials, gets_behind, keys_of, log_bytes, moments_behind, screen_bytes, state_behind, trials_of};
-ghost use Rattle.cm_run.specs.Meaning.{Meaning};
-ghost use Rattle.cm_run.specs.Observed.{Observed};
-ghost use Rattle.cm_run.specs.Progress.{keys_cost, progress, stroke_cost, MeetSound};
-ghost use Rattle.cm_run.specs.Trace.{RunState, events_if, key_trace, run_trace, starting, stroke, turn_outcome};
+ghost use Rattle.cm_run.specs.Event.{Act, Event, Log, Screen, Trials, gets_after, keys_of, log_bytes, moments_after, screen_bytes, state_after, trials_of};
+ghost use Rattle.cm_run.specs.Semantics.{Semantics};
+ghost use Rattle.cm_run.specs.Observation.{Observation};
+ghost use Rattle.cm_run.specs.Progress.{keys_cost, progress, keystroke_cost, MeetSound};
+ghost use Rattle.cm_run.specs.Trace.{RunState, events_if, key_trace, keystroke, run_trace, starting, turn_outcome};
 ghost use Rattle.cm_run.specs.declared.engine.TheConstants.{FILE_LINES};
 ghost use Rattle.cm_run.specs.declared.line_program.TheConstants.{LINE_KEYS};
 ghost use Rattle.cm_run.specs.Keeping.{IsLineKeeping, KeepsLine};
-ghost use Rattle.cm_run.specs.Shows.{EndsLine, IsClear, Shows, ShowsBehind, row_behind};
+ghost use Rattle.cm_run.specs.Shows.{EndsLine, IsClear, Shows, ShowsAfter, row_after};
 ghost use Rattle.cm_run.specs.Sound.{IsSound};
 
 use crate::{Application, Display, Stop};
@@ -33,11 +33,12 @@ use crate::{Application, Display, Stop};
 /// Nothing acts before confirmation: a line that goes on does nothing and takes no moment, and one that is refused
 /// takes none, and does no more than what the application means by a refusal, which shows nothing and takes no memory.
 pub fn only_a_line_that_is_done_acts<A: Application>()
-    ensures going_on { (m : Meaning A) → (state : A) → (session : SessionState) → (moment : ℕ) → (it : Turn)
+    // [confirmation]
+    ensures going_on { (m : Semantics A) → (state : A) → (session : SessionState) → (moment : ℕ) → (it : Turn)
         → (turn_outcome m state session moment it).begins ≡ false
         → ((turn_outcome m state session moment it).events ≡ [])
         × ((turn_outcome m state session moment it).takes_moment ≡ false) }
-    ensures refused { (m : Meaning A) → (state : A) → (session : SessionState) → (moment : ℕ) → (fault : Fault)
+    ensures refused { (m : Semantics A) → (state : A) → (session : SessionState) → (moment : ℕ) → (fault : Fault)
         → ((turn_outcome m state session moment (turn.Refused fault)).events ≡ Act (m.refusal state) ∷ [])
         × ((turn_outcome m state session moment (turn.Refused fault)).takes_moment ≡ false) }
 {}
@@ -45,56 +46,57 @@ pub fn only_a_line_that_is_done_acts<A: Application>()
 /// Nothing acts before the key that confirms it is shown whole, and logged where there is a log: whatever of the trace
 /// of a key stands before an act begins with its trials, its echo and its line of the log.
 pub fn nothing_acts_before_its_line_is_logged<A: Application>()
-    ensures { (m : Meaning A) → (logging : Bool) → (at : RunState A) → (key : ℕ)
+    ensures { (m : Semantics A) → (logging : Bool) → (at : RunState A) → (key : ℕ)
         → (first more : List (Event A)) → (left : A) → first ++ Act left ∷ more ≡ key_trace m logging at key
-        → (between : List (Event A)) × (first ≡ Trials (stroke m at key).cost ∷ Screen (stroke m at key).echo
-        ∷ (events_if logging (Log (stroke m at key).log ∷ []) ++ between)) }
+        → (between : List (Event A)) × (first ≡ Trials (keystroke m at key).cost ∷ Screen (keystroke m at key).echo
+        ∷ (events_if logging (Log (keystroke m at key).log ∷ []) ++ between)) }
 {}
 
 /// A run that is cut short shows and logs a beginning of what the whole run shows and logs: a failed screen, or a
 /// failed log, is given no more.
 pub fn a_cut_run_is_a_beginning<A: Application>()
-    ensures screen { (before now : Observed A) → (events : List (Event A)) → (result : Result Unit Stop)
+    ensures screen { (before now : Observation A) → (events : List (Event A)) → (result : Result Unit Stop)
         → Traces before now events result → AddsPart before.screen now.screen (screen_bytes events) }
-    ensures log { (before now : Observed A) → (events : List (Event A)) → (result : Result Unit Stop)
+    ensures log { (before now : Observation A) → (events : List (Event A)) → (result : Result Unit Stop)
         → Traces before now events result → AddsPart before.log now.log (log_bytes events) }
 {}
 
 /// What stands at a cut is exact: the keys that are taken and how often keys were asked for, the moments, the counter
-/// of trials and the state are those of the events before the one that was cut, and no key is taken behind it.
+/// of trials and the state are those of the events before the one that was cut, and no key is taken after it.
 pub fn what_stands_at_a_cut_is_exact<A: Application>()
-    ensures { (before now : Observed A) → (events : List (Event A)) → (why : Stop) → Traces before now events (Err why)
+    ensures { (before now : Observation A) → (events : List (Event A)) → (why : Stop)
+        → Traces before now events (Err why)
         → (done rest : List (Event A)) × (done ++ rest ≡ events)
-        × (keys_of done ++ now.keys ≡ before.keys) × (now.gets ≡ gets_behind before.gets done)
-        × (now.moments ≡ moments_behind before.moments done) × (now.trials ≡ before.trials + trials_of done)
-        × (now.state ≡ state_behind before.state done) }
+        × (keys_of done ++ now.keys ≡ before.keys) × (now.gets ≡ gets_after before.gets done)
+        × (now.moments ≡ moments_after before.moments done) × (now.trials ≡ before.trials + trials_of done)
+        × (now.state ≡ state_after before.state done) }
 {}
 
 /// A run over more keys shows what the run over the first of them shows, and then more: so the bytes that a run has
 /// shown by a key are those of the run over the keys up to it.
 pub fn a_run_shows_what_its_first_keys_show<A: Application>()
-    ensures { (m : Meaning A) → (logging : Bool) → (state : A) → (moments first more : List ℕ)
+    ensures { (m : Semantics A) → (logging : Bool) → (state : A) → (moments first more : List ℕ)
         → IsPart (screen_bytes (run_trace m logging state moments first))
         (screen_bytes (run_trace m logging state moments (first ++ more))) }
 {}
 
 /// The state that a run leaves is the one to which its keys lead.
 pub fn a_run_leaves_where_its_keys_lead<A: Application>()
-    ensures { (m : Meaning A) → (logging : Bool) → (state : A) → (moments keys : List ℕ)
-        → state_behind state (run_trace m logging state moments keys)
+    ensures { (m : Semantics A) → (logging : Bool) → (state : A) → (moments keys : List ℕ)
+        → state_after state (run_trace m logging state moments keys)
         ≡ (progress m (starting m state moments) keys).state }
 {}
 
 /// The counter rises by what the keys cost, one after the other, with a log or without: each the trials of its line,
 /// and of the lines of command files that it takes. Where none of those ever waits, it is its line's alone.
 pub fn the_counter_is_the_sum_over_the_keys<A: Application>()
-    ensures sum { (m : Meaning A) → (logging : Bool) → (state : A) → (moments keys : List ℕ)
+    ensures sum { (m : Semantics A) → (logging : Bool) → (state : A) → (moments keys : List ℕ)
         → trials_of (run_trace m logging state moments keys) ≡ keys_cost m (starting m state moments) keys }
-    ensures line { (m : Meaning A) → ((state : A) → m.file_line state ≡ None) → (at : RunState A) → (key : ℕ)
-        → stroke_cost (stroke m at key) ≡ (stroke m at key).cost }
+    ensures line { (m : Semantics A) → ((state : A) → m.file_line state ≡ None) → (at : RunState A) → (key : ℕ)
+        → keystroke_cost (keystroke m at key) ≡ (keystroke m at key).cost }
 {}
 
-/// With fewer keys than the limit, and no fault counted, a run goes to its end, but for want of memory.
+/// With fewer keys than the limit, and no fault counted, a run goes to its end, but for lack of memory.
 pub fn a_quiet_run_goes_to_its_end()
     ensures { (limit before now : ℕ) → (ended : Bool) → (counts : Counts) → (result : Result Unit Stop)
         → RunCause counts counts result → KeyCount limit before now ended result
@@ -115,36 +117,36 @@ pub fn the_prompts_are_printed()
     ensures sub { ArePrinted (prompt_text Sub) }
 {}
 
-/// A line without a join byte stands behind its prompt in one row, each TAB as a space.
+/// A line without a join byte stands after its prompt in one row, each TAB as a space.
 pub fn a_line_without_a_join_is_one_row()
     ensures { (prompt line : List ℕ) → has_join line ≡ false
-        → row_behind prompt line ≡ prompt ++ map screen_byte line }
+        → row_after prompt line ≡ prompt ++ map screen_byte line }
 {}
 
 /// Of a line with join bytes the last row holds what follows the last of them, and nothing of the prompt.
-pub fn a_row_begins_behind_a_join()
+pub fn a_row_begins_after_a_join()
     ensures { (prompt before row : List ℕ) → has_join row ≡ false
-        → row_behind prompt (before ++ JOIN ∷ row) ≡ map screen_byte row }
+        → row_after prompt (before ++ JOIN ∷ row) ≡ map screen_byte row }
 {}
 
 /// Where a display holds nothing, a prompt shows prompt and line of the session that begins with it.
 pub fn a_prompt_begins_a_line<D: Display>()
     ensures shows { (display : D.State) → D.holds display [] → (node : ℕ) → (prompt : Prompt)
-        → (restorable : Option (List ℕ)) → ArePrinted (prompt_text prompt)
-        → Shows D.holds (D.feed display (prompt_text prompt)) (at_start node prompt restorable) }
-    ensures clear { (node : ℕ) → (prompt : Prompt) → (restorable : Option (List ℕ))
-        → ArePrinted (prompt_text prompt) → IfSome restorable IsLine → IsClear (at_start node prompt restorable) }
+        → (recall : Option (List ℕ)) → ArePrinted (prompt_text prompt)
+        → Shows D.holds (D.feed display (prompt_text prompt)) (at_start node prompt recall) }
+    ensures clear { (node : ℕ) → (prompt : Prompt) → (recall : Option (List ℕ))
+        → ArePrinted (prompt_text prompt) → IfSome recall IsLine → IsClear (at_start node prompt recall) }
 {}
 
 /// Where a display shows prompt and line, the echo of a key leaves it showing prompt and line as they then are, for
-/// lines and prompts of every length; of a line with join bytes that is what follows the last. Behind a key that
+/// lines and prompts of every length; of a line with join bytes that is what follows the last. After a key that
 /// finishes the line or gives it up the display holds nothing.
 pub fn a_key_keeps_the_screen<D: Display>()
     ensures clear { (s : Setting) → IsSound s → (held : SessionState) → (key : ℕ) → IsClear held
         → IsClear (edited s held key) }
     ensures shows { (s : Setting) → IsSound s → (held : SessionState) → (key : ℕ) → IsClear held
         → (display : D.State) → Shows D.holds display held
-        → ShowsBehind D.holds (class_at (met_line held) key) (D.feed display (echo s held key)) (edited s held key) }
+        → ShowsAfter D.holds (class_at (line_before held) key) (D.feed display (echo s held key)) (edited s held key) }
 {}
 
 /// Where a display holds nothing, a reply that is empty or ends with a line feed leaves it holding nothing.
@@ -153,12 +155,12 @@ pub fn a_reply_ends_its_line<D: Display>()
         → D.holds (D.feed display bytes) [] }
 {}
 
-/// Behind the first prompt, and behind every key with what it does and the next prompt, a display shows prompt and
+/// After the first prompt, and after every key with what it does and the next prompt, a display shows prompt and
 /// line as they then are, wherever the next key is for a line: for every application whose replies end their lines.
 /// Raw keys may come between; what they show is asked only to end its line where a line begins again.
 ///
 /// `run` ensures of the keys that were taken that what each of them met is sound.
 pub fn a_run_keeps_the_screen<A: Application, D: Display>()
-    ensures { (m : Meaning A) → IsLineKeeping m → (state : A) → (moments keys : List ℕ)
+    ensures { (m : Semantics A) → IsLineKeeping m → (state : A) → (moments keys : List ℕ)
         → MeetSound m (starting m state moments) keys → KeepsLine D.feed D.holds m state moments keys }
 {}

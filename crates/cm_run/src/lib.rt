@@ -19,7 +19,7 @@ pub use application::Application;
 pub use display::Display;
 pub use engine::{FILE_LINES, run};
 pub use line::run_lines;
-pub use line_program::{LINE_KEYS, LineProgram, run_line_program};
+pub use line_program::{LINE_KEYS, LineProgram, run_line_program, status_of};
 pub use mode::Mode;
 pub use no_clock::NoClock;
 pub use single_line::run_line;

@@ -1,16 +1,16 @@
 // Where a line begins, and what a line that is confirmed does.
 ghost use Rattle.std.specs.Prelude.{◌≡◌, ◌≢◌, Err, ◌≤◌, ◌<◌, ◌+◌, ℕ, List, [], length, None, is_some};
 ghost use Rattle.cm_text.specs.Text.{IsLine, finished};
-ghost use Rattle.cm_io.specs.Told.{Told};
+ghost use Rattle.cm_io.specs.Contents.{Contents};
 ghost use Rattle.cm_blocks.specs.Fault.{grammar_fault};
-ghost use Rattle.cm_blocks.specs.Kept.{cost};
+ghost use Rattle.cm_blocks.specs.KeptParse.{cost};
 ghost use Rattle.cm_blocks.specs.Parse.{IsParse};
 ghost use Rattle.cm_blocks.specs.declared.field.Ending.TheVariants as ending;
 ghost use Rattle.cm_state.specs.SessionState.{text_of};
 ghost use Rattle.cm_run.specs.Cause.{ObeyCause};
 ghost use Rattle.cm_run.specs.Cut.{Traces};
-ghost use Rattle.cm_run.specs.Meaning.{IsLineAt, IsSparing, setting_of};
-ghost use Rattle.cm_run.specs.Observed.{observed};
+ghost use Rattle.cm_run.specs.Semantics.{IsLineAt, IsSparing, setting_of};
+ghost use Rattle.cm_run.specs.Observation.{observation};
 ghost use Rattle.cm_run.specs.Ready.{IsReadyIn};
 ghost use Rattle.cm_run.specs.Trace.{line_trace, file_session, file_trace, file_line_trace, next_line, node_of, line_start, opening};
 
@@ -30,9 +30,9 @@ pub(crate) fn open_line<A: Application, S: Sink>(
     requires faultless { grammar_fault A.means.graph ≡ None }
     ensures session { session.new ≡ line_start (A.means.mode_of app.now) session.old }
     ensures ready { IsReadyIn A.means app.now session.new }
-    ensures traces { (log : Told) → (keys : List ℕ) → (gets : ℕ) → (moments : List ℕ) → (trials : ℕ) → Traces
-        (observed (S.told screen.old) log keys gets moments trials app.now)
-        (observed (S.told screen.new) log keys gets moments trials app.now)
+    ensures traces { (log : Contents) → (keys : List ℕ) → (gets : ℕ) → (moments : List ℕ) → (trials : ℕ) → Traces
+        (observation (S.contents screen.old) log keys gets moments trials app.now)
+        (observation (S.contents screen.new) log keys gets moments trials app.now)
         (opening (A.means.mode_of app.now)) result }
     ensures later { S.faults screen.old ≤ S.faults screen.new }
     ensures cause { ObeyCause (S.faults screen.old) (S.faults screen.new) result }
@@ -82,7 +82,7 @@ pub(crate) fn parse_line<A: Application, L: Ledger>(
     session
 }
 
-// Takes a line of a command file, if one is next: parses it under the state that it finds, and does what it comes to.
+// Takes a line of a command file, if one is next: parses it under the state that it finds, and does what it says.
 #[tactic(auto, using(crate::proofs::Joins::traces_none, crate::proofs::FileLines::line_traces, crate::proofs::Memory::acts_spare), unfolding(crate::specs::Cause::ObeyCause))]
 fn take_line<A: Application, S: Sink, L: Ledger>(
     app: &mut A,
@@ -93,9 +93,9 @@ fn take_line<A: Application, S: Sink, L: Ledger>(
 ) -> Result<(), Stop>
     requires grammar { grammar.now ≡ A.means.graph }
     requires faultless { grammar_fault A.means.graph ≡ None }
-    ensures traces { (log : Told) → (keys : List ℕ) → (gets : ℕ) → (moments : List ℕ) → Traces
-        (observed (S.told screen.old) log keys gets moments steps.old app.old)
-        (observed (S.told screen.new) log keys gets moments steps.new app.new)
+    ensures traces { (log : Contents) → (keys : List ℕ) → (gets : ℕ) → (moments : List ℕ) → Traces
+        (observation (S.contents screen.old) log keys gets moments steps.old app.old)
+        (observation (S.contents screen.new) log keys gets moments steps.new app.new)
         (file_line_trace A.means moment app.old (next_line A.means app.old)) result }
     ensures later { S.faults screen.old ≤ S.faults screen.new }
     ensures cause { ObeyCause (S.faults screen.old) (S.faults screen.new) result }
@@ -122,9 +122,9 @@ fn take_lines<A: Application, S: Sink, L: Ledger>(
 ) -> Result<(), Stop>
     requires grammar { grammar.now ≡ A.means.graph }
     requires faultless { grammar_fault A.means.graph ≡ None }
-    ensures traces { (log : Told) → (keys : List ℕ) → (gets : ℕ) → (moments : List ℕ) → Traces
-        (observed (S.told screen.old) log keys gets moments steps.old app.old)
-        (observed (S.told screen.new) log keys gets moments steps.new app.new)
+    ensures traces { (log : Contents) → (keys : List ℕ) → (gets : ℕ) → (moments : List ℕ) → Traces
+        (observation (S.contents screen.old) log keys gets moments steps.old app.old)
+        (observation (S.contents screen.new) log keys gets moments steps.new app.new)
         (file_trace A.means FILE_LINES moment app.old) result }
     ensures later { S.faults screen.old ≤ S.faults screen.new }
     ensures cause { ObeyCause (S.faults screen.old) (S.faults screen.new) result }
@@ -142,8 +142,8 @@ fn take_lines<A: Application, S: Sink, L: Ledger>(
     Ok(())
 }
 
-/// Takes the lines of command files that wait, one after the other and at most 10,000, as a run does behind a line that
-/// is confirmed: each is parsed under the state that it finds, its trials are counted, and it does what it comes to.
+/// Takes the lines of command files that wait, one after the other and at most 10,000, as a run does after a line that
+/// is confirmed: each is parsed under the state that it finds, its trials are counted, and it does what it says.
 pub fn run_lines<A: Application, S: Sink, L: Ledger>(
     app: &mut A,
     grammar: &Grammar,
@@ -152,9 +152,9 @@ pub fn run_lines<A: Application, S: Sink, L: Ledger>(
     steps: &mut Steps<L>,
 ) -> Result<(), Stop>
     requires grammar { grammar.now ≡ A.means.graph }
-    ensures traces { (log : Told) → (keys : List ℕ) → (gets : ℕ) → (moments : List ℕ) → Traces
-        (observed (S.told screen.old) log keys gets moments steps.old app.old)
-        (observed (S.told screen.new) log keys gets moments steps.new app.new)
+    ensures traces { (log : Contents) → (keys : List ℕ) → (gets : ℕ) → (moments : List ℕ) → Traces
+        (observation (S.contents screen.old) log keys gets moments steps.old app.old)
+        (observation (S.contents screen.new) log keys gets moments steps.new app.new)
         (file_trace A.means FILE_LINES moment app.old) result }
     ensures later { S.faults screen.old ≤ S.faults screen.new }
     ensures cause { ObeyCause (S.faults screen.old) (S.faults screen.new) result }
@@ -179,9 +179,9 @@ pub(crate) fn confirm_line<A: Application, S: Sink, L: Ledger>(
     requires line { IsLineAt (A.means.mode_of app.old) session.now.node }
     requires parse { IsParse (setting_of A.means app.old) session.now.node (text_of session.now)
         session.now.fields ending.Done }
-    ensures traces { (log : Told) → (keys : List ℕ) → (gets : ℕ) → (moments : List ℕ) → Traces
-        (observed (S.told screen.old) log keys gets moments steps.old app.old)
-        (observed (S.told screen.new) log keys gets moments steps.new app.new)
+    ensures traces { (log : Contents) → (keys : List ℕ) → (gets : ℕ) → (moments : List ℕ) → Traces
+        (observation (S.contents screen.old) log keys gets moments steps.old app.old)
+        (observation (S.contents screen.new) log keys gets moments steps.new app.new)
         (line_trace A.means app.old session.now moment) result }
     ensures later { S.faults screen.old ≤ S.faults screen.new }
     ensures cause { ObeyCause (S.faults screen.old) (S.faults screen.new) result }

@@ -1,8 +1,8 @@
 // Programs that act by lines alone.
 ghost use Rattle.std.specs.Prelude.{◌≡◌, [], IsTrue};
-ghost use Rattle.cm_io.specs.Told.{Number};
-ghost use Rattle.cm_run.specs.LineRun.{LineCause, LineRun};
-ghost use Rattle.cm_run.specs.Observed.{observed};
+ghost use Rattle.cm_io.specs.Contents.{Number};
+ghost use Rattle.cm_run.specs.LineRun.{LineCause, LineRun, status_of};
+ghost use Rattle.cm_run.specs.Observation.{observation};
 
 use crate::{Application, Mode, NoClock, Stop, run};
 use cm_blocks::{Grammar, Steps};
@@ -21,12 +21,12 @@ pub const LINE_KEYS: u64 = u64::MAX;
 pub trait LineProgram {
     ghost use Rattle.std.specs.Prelude.{◌≡◌, ◌≤◌, ◌<◌, IfSome, length};
     ghost use Rattle.cm_io.specs.Fault.{PutCause};
-    ghost use Rattle.cm_io.specs.Told.{Adds};
+    ghost use Rattle.cm_io.specs.Contents.{Adds};
     ghost use Rattle.cm_blocks.specs.Parse.{IsParse};
     ghost use Rattle.cm_blocks.specs.declared.field.Ending.TheVariants as ending;
     ghost use Rattle.cm_state.specs.SessionState.{text_of};
-    ghost use Rattle.cm_run.specs.LineMeaning.{LineMeaning, line_mode, lines_only};
-    ghost use Rattle.cm_run.specs.Meaning.{IsLineAt, setting_of};
+    ghost use Rattle.cm_run.specs.LineSemantics.{LineSemantics, line_mode, lines_only};
+    ghost use Rattle.cm_run.specs.Semantics.{IsLineAt, setting_of};
 
     /// What it says of its own kinds of field.
     type Rules: Rules;
@@ -35,7 +35,7 @@ pub trait LineProgram {
     type Names: Names;
 
     /// What it means.
-    ghost means: { LineMeaning Self };
+    ghost means: { LineSemantics Self };
 
     /// The directories and files that a line may name now.
     fn names(&self) -> &Self::Names
@@ -59,13 +59,14 @@ pub trait LineProgram {
         requires parse { IsParse (setting_of (lines_only means) self.old) session.now.node (text_of session.now)
             session.now.fields ending.Done }
         ensures state { self.new ≡ means.state_of self.old session.now }
-        ensures reply { Adds (S.told screen.old) (S.told screen.new) (means.reply_of self.old session.now) result }
+        ensures reply { Adds (S.contents screen.old) (S.contents screen.new)
+            (means.reply_of self.old session.now) result }
         ensures later { S.faults screen.old ≤ S.faults screen.new }
         ensures cause { PutCause (S.faults screen.old) (S.faults screen.new) result };
 }
 
 impl<P: LineProgram> Application for P {
-    ghost use Rattle.cm_run.specs.LineMeaning.{lines_only};
+    ghost use Rattle.cm_run.specs.LineSemantics.{lines_only};
 
     type Rules = P::Rules;
 
@@ -149,8 +150,8 @@ pub fn run_line_program<P: LineProgram, K: Source, S: Sink, L: Ledger>(
     requires grammar { grammar.now ≡ P.means.graph }
     // What stands is the trace of the run, or a cut of it.
     ensures stands { IsTrue K.tells → LineRun P.means
-        (observed (S.told screen.old) (Number 0) (K.left keys.old) (K.gets keys.old) [] steps.old program.old)
-        (observed (S.told screen.new) (Number 0) (K.left keys.new) (K.gets keys.new) [] steps.new program.new)
+        (observation (S.contents screen.old) (Number 0) (K.left keys.old) (K.gets keys.old) [] steps.old program.old)
+        (observation (S.contents screen.new) (Number 0) (K.left keys.new) (K.gets keys.new) [] steps.new program.new)
         result }
     // When each answer comes, by the counts of faults.
     ensures cause { LineCause (K.faults keys.old) (K.faults keys.new)
@@ -161,4 +162,18 @@ pub fn run_line_program<P: LineProgram, K: Source, S: Sink, L: Ledger>(
     run(
         LINE_KEYS, false, program, grammar, keys, screen, &mut log, &mut clock, steps,
     )
+}
+
+/// The number that a process ends with whose run ended so: 0 where it went to its end or as many keys were taken as it
+/// takes, 1 where the keys failed, 2 where the screen did, and 3 for lack of memory, which may be before the first
+/// prompt.
+pub fn status_of(outcome: Result<(), Stop>) -> u8
+    ensures { result ≡ status_of outcome }
+{
+    match outcome {
+        Ok(()) | Err(Stop::Limit) => 0,
+        Err(Stop::Keys) => 1,
+        Err(Stop::Screen | Stop::Log) => 2,
+        Err(Stop::Memory) => 3,
+    }
 }

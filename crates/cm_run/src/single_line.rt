@@ -1,13 +1,13 @@
 // A line that is handed in.
 ghost use Rattle.std.specs.Prelude.{◌≡◌, ◌≢◌, ◌≤◌, ℕ, List, Err, None, Some};
 ghost use Rattle.cm_text.specs.Text.{IsLine};
-ghost use Rattle.cm_io.specs.Told.{Told};
+ghost use Rattle.cm_io.specs.Contents.{Contents};
 ghost use Rattle.cm_blocks.specs.Fault.{grammar_fault};
 ghost use Rattle.cm_run.specs.Cause.{ObeyCause};
 ghost use Rattle.cm_run.specs.Cut.{Traces};
 ghost use Rattle.cm_run.specs.SingleLine.{handed_trace};
-ghost use Rattle.cm_run.specs.Meaning.{IsSparing};
-ghost use Rattle.cm_run.specs.Observed.{observed};
+ghost use Rattle.cm_run.specs.Semantics.{IsSparing};
+ghost use Rattle.cm_run.specs.Observation.{observation};
 ghost use Rattle.cm_run.specs.Trace.{file_line_trace, line_by};
 
 use crate::line::parse_line;
@@ -17,7 +17,7 @@ use cm_io::Sink;
 use std::sync::ledger::Ledger;
 
 // Takes a line that is handed in, if the next key is for one: parses it under the state that it finds, and does what it
-// comes to.
+// says.
 #[tactic(auto, using(crate::proofs::Joins::traces_none, crate::proofs::FileLines::line_traces, crate::proofs::Memory::acts_spare), unfolding(crate::specs::Cause::ObeyCause))]
 fn take_handed<A: Application, S: Sink, L: Ledger>(
     app: &mut A,
@@ -30,9 +30,9 @@ fn take_handed<A: Application, S: Sink, L: Ledger>(
     requires grammar { grammar.now ≡ A.means.graph }
     requires faultless { grammar_fault A.means.graph ≡ None }
     requires line { IsLine line.now }
-    ensures traces { (log : Told) → (keys : List ℕ) → (gets : ℕ) → (moments : List ℕ) → Traces
-        (observed (S.told screen.old) log keys gets moments steps.old app.old)
-        (observed (S.told screen.new) log keys gets moments steps.new app.new)
+    ensures traces { (log : Contents) → (keys : List ℕ) → (gets : ℕ) → (moments : List ℕ) → Traces
+        (observation (S.contents screen.old) log keys gets moments steps.old app.old)
+        (observation (S.contents screen.new) log keys gets moments steps.new app.new)
         (file_line_trace A.means moment app.old (line_by (A.means.mode_of app.old) (Some line.now))) result }
     ensures later { S.faults screen.old ≤ S.faults screen.new }
     ensures cause { ObeyCause (S.faults screen.old) (S.faults screen.new) result }
@@ -46,7 +46,7 @@ fn take_handed<A: Application, S: Sink, L: Ledger>(
 }
 
 /// Takes a line that is handed in, if the next key is for one, as a run takes one of a command file: it is parsed under
-/// the state that it finds, its trials are counted, and it does what it comes to. Then the lines of the command files
+/// the state that it finds, its trials are counted, and it does what it says. Then the lines of the command files
 /// that it takes are taken, at most 10,000; the line itself is none of these.
 #[tactic(auto, using(crate::proofs::Causes::obey_cause_on), unfolding(crate::specs::Cause::ObeyCause))]
 pub fn run_line<A: Application, S: Sink, L: Ledger>(
@@ -59,9 +59,9 @@ pub fn run_line<A: Application, S: Sink, L: Ledger>(
 ) -> Result<(), Stop>
     requires grammar { grammar.now ≡ A.means.graph }
     requires line { IsLine line.now }
-    ensures traces { (log : Told) → (keys : List ℕ) → (gets : ℕ) → (moments : List ℕ) → Traces
-        (observed (S.told screen.old) log keys gets moments steps.old app.old)
-        (observed (S.told screen.new) log keys gets moments steps.new app.new)
+    ensures traces { (log : Contents) → (keys : List ℕ) → (gets : ℕ) → (moments : List ℕ) → Traces
+        (observation (S.contents screen.old) log keys gets moments steps.old app.old)
+        (observation (S.contents screen.new) log keys gets moments steps.new app.new)
         (handed_trace A.means moment app.old line.now) result }
     ensures later { S.faults screen.old ≤ S.faults screen.new }
     ensures cause { ObeyCause (S.faults screen.old) (S.faults screen.new) result }

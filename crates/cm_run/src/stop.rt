@@ -9,7 +9,7 @@ pub enum Stop {
     Log,
     /// The keys could not be read on.
     Keys,
-    /// Memory was wanting for an act.
+    /// Memory ran out for an act.
     Memory,
     /// As many keys were taken as the run takes.
     Limit,

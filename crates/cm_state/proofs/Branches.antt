@@ -1,4 +1,4 @@
--- What stands behind the keywords of some commands: by which blocks the fields of a role are read there.
+-- What stands after the keywords of some commands: by which blocks the fields of a role are read there.
 -- What follows a verb is proved over any grammar. A program says where its lines begin (Begins), and gives an instance
 -- of four refl for each thing that it needs. A Branch names verbs, the nodes after them, a role and a test on its
 -- blocks. IsBranch says that such a block reads the field, also through keywords of other tables (leads_to). What a
@@ -30,7 +30,7 @@ use Rattle.cm_blocks.proofs.Fields.{IsTried, chain_number, chain_tried}
 use Rattle.cm_blocks.proofs.Values.{IsKeyword, key_says, meant_within}
 use Rattle.cm_state.specs.Roles.{field_of, is_role}
 
--- some commands by the codes of their keywords, the nodes behind them, and the blocks that read the fields of a role
+-- some commands by the codes of their keywords, the nodes after them, and the blocks that read the fields of a role
 -- there
 pub record Branch : Type 0 where
   pub names : ℕ → Bool
@@ -61,9 +61,9 @@ abbrev pub all_from : (ℕ → Node → Bool) → ℕ → List Node → Bool
 all_from test number [] = true
 all_from test number (node ∷ nodes) = test number node && all_from test (number + 1) nodes
 
--- behind an end that leads to this node there is no verb
-abbrev pub behind_end : ℕ → Branch
-behind_end next = record {
+-- after an end that leads to this node there is no verb
+abbrev pub after_end : ℕ → Branch
+after_end next = record {
   names = λ (code : ℕ). false;
   inside = λ (node : ℕ). node == next;
   role = roles.Verb;
@@ -81,7 +81,7 @@ pub record Begins (graph : Graph) (start table : ℕ) : Type 0 where
   pub end_role : end.role ≡ roles.None
   pub key_function : keyword.function ≡ functions.Key table
   pub key_role : keyword.role ≡ roles.Verb
-  pub one_verb : all_from (node_stays graph (behind_end end.next)) 0 graph.nodes ≡ true
+  pub one_verb : all_from (node_stays graph (after_end end.next)) 0 graph.nodes ≡ true
 
 -- such a command leads to such a node
 abbrev pub leads : Branch → Entry → Bool
@@ -284,7 +284,7 @@ first_field s start table begins text at field is =
         inr (sym same, key_says s flags table rest at field.value looked end key)
     by (suc (suc place)) block flags rest at looked end found accepts = cc
 
--- what finds none of the first field goes on behind it
-pub behind_first : (test : FieldView → Bool) (first : FieldView) (fields : List FieldView) (found : Option FieldView) → test first ≡ false
+-- what finds none of the first field goes on after it
+pub after_first : (test : FieldView → Bool) (first : FieldView) (fields : List FieldView) (found : Option FieldView) → test first ≡ false
     → find test (first ∷ fields) ≡ found → find test fields ≡ found
-behind_first test first fields found other is = rw other at is
+after_first test first fields found other is = rw other at is

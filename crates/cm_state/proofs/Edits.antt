@@ -1,4 +1,4 @@
--- What a key makes of a session, over the steps of the code.
+-- [key-line] What a key makes of a session, over the steps of the code.
 -- A key is one lemma over the steps of the code (takes): each premise is a step's clause, as self.new ≡ record self.old
 -- { .. }, and cc joins them. edit_and_parse has the answers, and Session::key has none. A completion is said of the
 -- ending held (completion), by met_completion of the line that the key meets. apply_edit gives kept front and bell as
@@ -12,23 +12,23 @@ use Rattle.cm_line.specs.declared.key.KeyClass.TheVariants.{End}
 use Rattle.cm_line.specs.Keys.{class_at, is_end}
 use Rattle.cm_blocks.specs.declared.field.Ending.{Ending}
 use Rattle.cm_blocks.specs.Fault.{grammar_fault}
-use Rattle.cm_blocks.specs.Kept.{BeginsWith, common, cost, cost_behind, kept, needing}
+use Rattle.cm_blocks.specs.KeptParse.{BeginsWith, common, cost, cost_after, decided_within, kept}
 use Rattle.cm_blocks.specs.Parse.{IsClosed, IsParse, Parse, open_at, parse_of}
 use Rattle.cm_blocks.specs.Setting.{Setting}
 use Rattle.cm_blocks.proofs.Closure.{finished_closes}
 use Rattle.cm_blocks.proofs.Parses.{parse_of_parses}
 use Rattle.cm_blocks.proofs.KeptFields.{kept_begins}
 use Rattle.cm_state.specs.Edit.{before_fault, completed, completion, edit, edited, edited_as, parsed_again}
-use Rattle.cm_state.specs.SessionState.{SessionState, IsReady, at_start, met_line, parse_held, text_of}
+use Rattle.cm_state.specs.SessionState.{SessionState, IsReady, at_start, line_before, parse_held, text_of}
 use Rattle.cm_state.specs.Stack.{Starts}
 use Rattle.cm_state.specs.declared.prompt.Prompt.{Prompt}
 use Rattle.cm_state.proofs.Starts.{kept_starts, met_ending, met_fields, none_costs, none_starts}
 
--- a key behind a finished text meets an empty line
+-- a key after a finished text meets an empty line
 abbrev pub Reopens : SessionState → SessionState → Type 0
 Reopens old reopened =
     reopened ≡ record old {
-      line = met_line old;
+      line = line_before old;
       is_finished = false;
       fields = if old.is_finished then [] else old.fields;
       ending = if old.is_finished then open_at old.node 0 else old.ending;
@@ -38,26 +38,26 @@ Reopens old reopened =
 abbrev pub AppliesEdit : Setting → SessionState → SessionState → KeyClass → ℕ → Type 0
 AppliesEdit s reopened applied class key =
     applied ≡ record reopened {
-      line = edit class key reopened.line reopened.restorable (completion s class reopened.ending reopened.line).bytes;
+      line = edit class key reopened.line reopened.recall (completion s class reopened.ending reopened.line).bytes;
       is_finished = is_end class;
-      restorable = None;
+      recall = None;
     }
 
 -- the edited line with its parse is what the key leaves
 edited_with_parse : (s : Setting) (old now : SessionState) (class : KeyClass) (key : ℕ)
     → now ≡ record old {
-      line = edit class key (met_line old) old.restorable (completed s old class).bytes;
+      line = edit class key (line_before old) old.recall (completed s old class).bytes;
       is_finished = is_end class;
       fields = now.fields;
       ending = now.ending;
-      restorable = if is_end class then before_fault
-          (edit class key (met_line old) old.restorable (completed s old class).bytes) now.ending else
+      recall = if is_end class then before_fault
+          (edit class key (line_before old) old.recall (completed s old class).bytes) now.ending else
           None;
     }
     → parse_held now ≡ parse_of s now.node (text_of now) → now ≡ edited_as s old class key
 unfolding edited_as
 edited_with_parse s old now class key same parse =
-    let line = edit class key (met_line old) old.restorable (completed s old class).bytes in
+    let line = edit class key (line_before old) old.recall (completed s old class).bytes in
     let node : now.node ≡ old.node = ap (λ (h : SessionState). h.node) same in
     let text : text_of now ≡ (if is_end class then finished line else line) = ap text_of same in
     let whole : parse_held now ≡ parse_of s old.node (if is_end class then finished line else line) = cc in
@@ -89,7 +89,7 @@ stands s now below parse = record {
 -- the fields that are left before the parse goes on are those that are kept
 pub record Trims (s : Setting) (old trimmed : SessionState) : Type 0 where
   pub node : trimmed.node ≡ old.node
-  pub fields : trimmed.fields ≡ kept s old.node (met_line old) (text_of trimmed)
+  pub fields : trimmed.fields ≡ kept s old.node (line_before old) (text_of trimmed)
 
 pub trims : (s : Setting) (old reopened applied trimmed : SessionState) (class : KeyClass) (key size : ℕ)
     → grammar_fault s.graph ≡ None
@@ -97,68 +97,68 @@ pub trims : (s : Setting) (old reopened applied trimmed : SessionState) (class :
     → Reopens old reopened
     → AppliesEdit s reopened applied class key
     → size ≡ common reopened.line (text_of applied)
-    → trimmed ≡ record applied { fields = needing size applied.fields } → Trims s old trimmed
+    → trimmed ≡ record applied { fields = decided_within size applied.fields } → Trims s old trimmed
 unfolding kept
 trims s old reopened applied trimmed class key size none ready reopen apply front keep =
     let text : text_of trimmed ≡ text_of applied = ap text_of keep in
-    let line : reopened.line ≡ met_line old = ap (λ (h : SessionState). h.line) reopen in
-    let same : size ≡ common (met_line old) (text_of trimmed) = cc in
+    let line : reopened.line ≡ line_before old = ap (λ (h : SessionState). h.line) reopen in
+    let same : size ≡ common (line_before old) (text_of trimmed) = cc in
     let node : trimmed.node ≡ old.node = cc in
-    let met : applied.fields ≡ (parse_of s old.node (met_line old)).fields =
+    let met : applied.fields ≡ (parse_of s old.node (line_before old)).fields =
     ap (λ (h : SessionState). h.fields) apply ∙ ap (λ (h : SessionState). h.fields) reopen
     ∙ met_fields s old none ready in
-    let fields : trimmed.fields ≡ needing size applied.fields = ap (λ (h : SessionState). h.fields) keep in
+    let fields : trimmed.fields ≡ decided_within size applied.fields = ap (λ (h : SessionState). h.fields) keep in
     record { node = node; fields = cc }
 
--- behind them the parse goes on
+-- after them the parse goes on
 pub trimmed_starts : (s : Setting) (old trimmed : SessionState) → grammar_fault s.graph ≡ None → IsReady s old
     → Trims s old trimmed
     → Starts s trimmed.node (text_of trimmed) trimmed.fields
 trimmed_starts s old trimmed none ready trim =
-    rw (trim.fields, trim.node) (kept_starts s none old.node ready.node (met_line old) (text_of trimmed))
+    rw (trim.fields, trim.node) (kept_starts s none old.node ready.node (line_before old) (text_of trimmed))
 
 -- what a key puts in is what completes the line that it meets
 pub met_completion : (s : Setting) (old reopened : SessionState) (class : KeyClass) → grammar_fault s.graph ≡ None
     → IsReady s old
     → Reopens old reopened → completion s class reopened.ending reopened.line ≡ completed s old class
 met_completion s old reopened class none ready reopen =
-    let line : reopened.line ≡ met_line old = ap (λ (h : SessionState). h.line) reopen in
-    let ends : reopened.ending ≡ (parse_of s old.node (met_line old)).ending =
+    let line : reopened.line ≡ line_before old = ap (λ (h : SessionState). h.line) reopen in
+    let ends : reopened.ending ≡ (parse_of s old.node (line_before old)).ending =
     ap (λ (h : SessionState). h.ending) reopen ∙ met_ending s old none ready in
     ap (λ (ends : Ending). completion s class ends reopened.line) ends
-    ∙ ap (λ (line : List ℕ). completion s class (parse_of s old.node (met_line old)).ending line) line
+    ∙ ap (λ (line : List ℕ). completion s class (parse_of s old.node (line_before old)).ending line) line
 
 -- the line with its parse, over the steps: the line is reopened, edited, and its parse held
 edited_is : (s : Setting) (old reopened applied trimmed now : SessionState) (class : KeyClass) (key size : ℕ)
-    → class ≡ class_at (met_line old) key
+    → class ≡ class_at (line_before old) key
     → completion s class reopened.ending reopened.line ≡ completed s old class
     → Reopens old reopened
     → AppliesEdit s reopened applied class key
-    → trimmed ≡ record applied { fields = needing size applied.fields }
-    → now.restorable ≡ (if trimmed.is_finished then before_fault trimmed.line now.ending else None)
-    → now ≡ record trimmed { fields = now.fields; ending = now.ending; restorable = now.restorable }
+    → trimmed ≡ record applied { fields = decided_within size applied.fields }
+    → now.recall ≡ (if trimmed.is_finished then before_fault trimmed.line now.ending else None)
+    → now ≡ record trimmed { fields = now.fields; ending = now.ending; recall = now.recall }
     → parse_held now ≡ parse_of s now.node (text_of now) → now ≡ edited s old key
-edited_is s old reopened applied trimmed now class key size is met reopen apply keep restorable same parse =
+edited_is s old reopened applied trimmed now class key size is met reopen apply keep recall same parse =
     subst (λ (it : KeyClass). now ≡ edited_as s old it key) is (edited_with_parse s old now class key (cc) parse)
 
 -- what the key leaves, and what it costs
 pub record EditsAndParses (s : Setting) (old now : SessionState) (key spent : ℕ) : Type 0 where
   pub edited : now ≡ edited s old key
   pub stands : Stands s now
-  pub keeps : BeginsWith (kept s old.node (met_line old) (text_of now)) now.fields
-  pub cost : spent ≡ cost s old.node (met_line old) (text_of now)
+  pub keeps : BeginsWith (kept s old.node (line_before old) (text_of now)) now.fields
+  pub cost : spent ≡ cost s old.node (line_before old) (text_of now)
 
 pub edits_and_parses : (s : Setting) (old reopened applied trimmed now : SessionState) (class : KeyClass)
     (key size spent : ℕ)
-    → grammar_fault s.graph ≡ None → IsReady s old → class ≡ class_at (met_line old) key
+    → grammar_fault s.graph ≡ None → IsReady s old → class ≡ class_at (line_before old) key
     → Reopens old reopened
     → AppliesEdit s reopened applied class key
-    → trimmed ≡ record applied { fields = needing size applied.fields }
+    → trimmed ≡ record applied { fields = decided_within size applied.fields }
     → Trims s old trimmed
-    → now.restorable ≡ (if trimmed.is_finished then before_fault trimmed.line now.ending else None)
-    → now ≡ record trimmed { fields = now.fields; ending = now.ending; restorable = now.restorable }
+    → now.recall ≡ (if trimmed.is_finished then before_fault trimmed.line now.ending else None)
+    → now ≡ record trimmed { fields = now.fields; ending = now.ending; recall = now.recall }
     → parse_held now ≡ parse_of s trimmed.node (text_of trimmed)
-    → spent ≡ cost_behind s trimmed.node (text_of trimmed) trimmed.fields
+    → spent ≡ cost_after s trimmed.node (text_of trimmed) trimmed.fields
     → EditsAndParses s old now key spent
 unfolding cost
 edits_and_parses s old reopened applied trimmed now class key size spent none ready is reopen apply keep trim rest same
@@ -176,12 +176,12 @@ edits_and_parses s old reopened applied trimmed now class key size spent none re
           reopen apply keep rest same parse;
       stands = stands s now (rw start ready.node) parse;
       keeps =
-          subst (BeginsWith (kept s old.node (met_line old) (text_of now))) (sym fields)
-          (kept_begins s none old.node (met_line old) (text_of now));
+          subst (BeginsWith (kept s old.node (line_before old) (text_of now))) (sym fields)
+          (kept_begins s none old.node (line_before old) (text_of now));
       cost = rw text (costs ∙ rw (trim.fields, trim.node) refl);
     }
 
--- a whole line behind a start
+-- a whole line after a start
 pub record Finishes (s : Setting) (start now : SessionState) (line : List ℕ) (spent : ℕ) : Type 0 where
   pub edited : now ≡ edited_as s start End 13
   pub parse : IsParse s start.node (finished line) now.fields now.ending
@@ -193,14 +193,14 @@ pub record Finishes (s : Setting) (start now : SessionState) (line : List ℕ) (
 abbrev Fills : SessionState → SessionState → ℕ → Prompt → Option (List ℕ) → List ℕ → Type 0
 Fills started entered node prompt bytes line =
     (started ≡ at_start node prompt bytes) × (entered ≡ record started
-    { line = line; is_finished = true; restorable = None })
+    { line = line; is_finished = true; recall = None })
 
 filled : (started entered : SessionState) (node : ℕ) (prompt : Prompt) (bytes : Option (List ℕ)) (line : List ℕ)
     → Fills started entered node prompt bytes line
     → entered ≡ record (at_start node prompt None) { line = line; is_finished = true }
 filled started entered node prompt bytes line fills =
     fills.1 ∙ ap (λ (h : SessionState). let filled : SessionState =
-    record h { line = line; is_finished = true; restorable = None } in filled) fills.0
+    record h { line = line; is_finished = true; recall = None } in filled) fills.0
 
 pub whole_starts : (s : Setting) (started entered : SessionState) (node : ℕ) (prompt : Prompt)
     (bytes : Option (List ℕ)) (line : List ℕ)
@@ -214,10 +214,10 @@ whole_starts s started entered node prompt bytes line none below fills =
 pub finishes : (s : Setting) (started entered now : SessionState) (node : ℕ) (prompt : Prompt)
     (bytes : Option (List ℕ)) (line : List ℕ) (spent : ℕ)
     → grammar_fault s.graph ≡ None → node < length s.graph.nodes → Fills started entered node prompt bytes line
-    → now.restorable ≡ (if entered.is_finished then before_fault entered.line now.ending else None)
-    → now ≡ record entered { fields = now.fields; ending = now.ending; restorable = now.restorable }
+    → now.recall ≡ (if entered.is_finished then before_fault entered.line now.ending else None)
+    → now ≡ record entered { fields = now.fields; ending = now.ending; recall = now.recall }
     → parse_held now ≡ parse_of s entered.node (text_of entered)
-    → spent ≡ cost_behind s entered.node (text_of entered) entered.fields
+    → spent ≡ cost_after s entered.node (text_of entered) entered.fields
     → Finishes s (record (at_start node prompt bytes) { line = line }) now line spent
 finishes s started entered now node prompt bytes line spent none below fills rest same held costs =
     let is = filled started entered node prompt bytes line fills in
@@ -234,7 +234,7 @@ finishes s started entered now node prompt bytes line spent none below fills res
       decided =
           subst IsClosed (ap (λ (parse : Parse). parse.ending) (sym whole)) (finished_closes s none node line);
       cost =
-          costs ∙ ap (λ (h : SessionState). cost_behind s h.node (text_of h) h.fields) is
+          costs ∙ ap (λ (h : SessionState). cost_after s h.node (text_of h) h.fields) is
           ∙ sym (none_costs s none node below (finished line));
     }
 
@@ -256,7 +256,7 @@ with_parse : SessionState → Parse → SessionState
 with_parse held parse = record held {
   fields = parse.fields;
   ending = parse.ending;
-  restorable = if held.is_finished then before_fault held.line parse.ending else held.restorable;
+  recall = if held.is_finished then before_fault held.line parse.ending else held.recall;
 }
 
 parsed_is : (s : Setting) (old emptied parsed now : SessionState)
@@ -264,8 +264,8 @@ parsed_is : (s : Setting) (old emptied parsed now : SessionState)
     → parse_held parsed ≡ parse_of s emptied.node (text_of emptied)
     → parsed ≡ record emptied { fields = parsed.fields; ending = parsed.ending }
     → now ≡ record parsed {
-      restorable =
-          if parsed.is_finished then before_fault parsed.line parsed.ending else parsed.restorable;
+      recall =
+          if parsed.is_finished then before_fault parsed.line parsed.ending else parsed.recall;
     }
     → now ≡ parsed_again s old
 unfolding parsed_again with_parse
@@ -277,7 +277,7 @@ parsed_is s old emptied parsed now empty held same refused =
     record h { fields = parsed.fields; ending = parsed.ending } in it) empty in
     refused
     ∙ ap (λ (h : SessionState). let it : SessionState =
-    record h { restorable = if h.is_finished then before_fault h.line h.ending else h.restorable } in it) over
+    record h { recall = if h.is_finished then before_fault h.line h.ending else h.recall } in it) over
     ∙ ap (λ (parse : Parse). with_parse old parse) whole
 
 pub parses_again : (s : Setting) (old emptied parsed now : SessionState) (spent : ℕ)
@@ -286,10 +286,10 @@ pub parses_again : (s : Setting) (old emptied parsed now : SessionState) (spent 
     → parse_held parsed ≡ parse_of s emptied.node (text_of emptied)
     → parsed ≡ record emptied { fields = parsed.fields; ending = parsed.ending }
     → now ≡ record parsed {
-      restorable =
-          if parsed.is_finished then before_fault parsed.line parsed.ending else parsed.restorable;
+      recall =
+          if parsed.is_finished then before_fault parsed.line parsed.ending else parsed.recall;
     }
-    → spent ≡ cost_behind s emptied.node (text_of emptied) emptied.fields
+    → spent ≡ cost_after s emptied.node (text_of emptied) emptied.fields
     → ParsesAgain s old now spent
 unfolding parsed_again
 parses_again s old emptied parsed now spent none below empty held same refused costs =
@@ -301,6 +301,6 @@ parses_again s old emptied parsed now spent none below empty held same refused c
       session = is;
       stands = stands s now (rw node below) (rw (node, text) parse);
       cost =
-          costs ∙ ap (λ (h : SessionState). cost_behind s h.node (text_of h) h.fields) empty
+          costs ∙ ap (λ (h : SessionState). cost_after s h.node (text_of h) h.fields) empty
           ∙ sym (none_costs s none old.node below (text_of old));
     }

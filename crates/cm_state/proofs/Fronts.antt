@@ -14,7 +14,7 @@ use Rattle.cm_line.specs.declared.key.KeyClass.TheVariants.{Text, End, Join, Rub
 use Rattle.cm_line.specs.Keys.{is_end}
 use Rattle.cm_line.specs.Word.{word_start}
 use Rattle.cm_line.proofs.ClassLaws.{some_bytes}
-use Rattle.cm_blocks.specs.Kept.{common}
+use Rattle.cm_blocks.specs.KeptParse.{common}
 use Rattle.cm_state.specs.Edit.{edit}
 use Rattle.cm_state.specs.Front.{front}
 
@@ -37,9 +37,9 @@ common_prefix (suc size) (byte ∷ line) = rw (eq_itself byte)
 
 -- the front that stays: what a key leaves of the line
 abbrev Stays : KeyClass → ℕ → List ℕ → Option (List ℕ) → List ℕ → Type 0
-Stays class key line restorable inserted =
-    let now : List ℕ = edit class key line restorable inserted in
-    min (front class line restorable) (length now) ≡ common line (if is_end class then finished now else now)
+Stays class key line recall inserted =
+    let now : List ℕ = edit class key line recall inserted in
+    min (front class line recall) (length now) ≡ common line (if is_end class then finished now else now)
 
 prefix_stays : (size : ℕ) (line : List ℕ) → min (length line) (length (take size line)) ≡ common line (take size line)
 prefix_stays size line =
@@ -78,20 +78,20 @@ join_stays line ends =
     let alike : common line (joined line) ≡ length line - 1 = common_join (length line - 1) line (omega (arith, some)) ends in
     omega (arith, alike, length-append (take (length line - 1) line) (JOIN ∷ []), length-take (length line - 1) line)
 
-pub front_stays : (class : KeyClass) (key : ℕ) (line : List ℕ) (restorable : Option (List ℕ)) (inserted : List ℕ)
-    → (class ≡ Join → ends_in_hyphen line ≡ true) → Stays class key line restorable inserted
-front_stays Text key line restorable inserted join = text_stays (nat_lt (length line) LINE_LIMIT) key line
-front_stays Join key line restorable inserted join = join_stays line (join refl)
-front_stays End key line restorable inserted join = omega (arith, common_longer line (13 ∷ []))
-front_stays Rub key line restorable inserted join = prefix_stays (length line - 1) line
-front_stays Word key line restorable inserted join = prefix_stays (word_start line) line
-front_stays Erase key line restorable inserted join = none_stays line
-front_stays Stop key line restorable inserted join = none_stays line
+pub front_stays : (class : KeyClass) (key : ℕ) (line : List ℕ) (recall : Option (List ℕ)) (inserted : List ℕ)
+    → (class ≡ Join → ends_in_hyphen line ≡ true) → Stays class key line recall inserted
+front_stays Text key line recall inserted join = text_stays (nat_lt (length line) LINE_LIMIT) key line
+front_stays Join key line recall inserted join = join_stays line (join refl)
+front_stays End key line recall inserted join = omega (arith, common_longer line (13 ∷ []))
+front_stays Rub key line recall inserted join = prefix_stays (length line - 1) line
+front_stays Word key line recall inserted join = prefix_stays (word_start line) line
+front_stays Erase key line recall inserted join = none_stays line
+front_stays Stop key line recall inserted join = none_stays line
 front_stays Back key line None inserted join = line_stays line
 front_stays Back key line (Some bytes) inserted join =
     let most = common_prefix_len-le (λ byte other. byte == other) line bytes in omega (arith, most.1)
-front_stays Show key line restorable inserted join = line_stays line
-front_stays Escape key line restorable inserted join = longer_stays line inserted
-front_stays Part key line restorable inserted join = longer_stays line inserted
-front_stays Help key line restorable inserted join = line_stays line
-front_stays Other key line restorable inserted join = line_stays line
+front_stays Show key line recall inserted join = line_stays line
+front_stays Escape key line recall inserted join = longer_stays line inserted
+front_stays Part key line recall inserted join = longer_stays line inserted
+front_stays Help key line recall inserted join = line_stays line
+front_stays Other key line recall inserted join = line_stays line

@@ -1,5 +1,5 @@
-mod Edits
 pub mod Branches
+mod Edits
 mod Fronts
 pub mod Labels
 pub mod Lines

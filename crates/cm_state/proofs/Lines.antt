@@ -24,7 +24,7 @@ use Rattle.cm_blocks.specs.Well.{AreTables}
 use Rattle.cm_recognise.specs.declared.insertion.Mode.TheVariants as modes
 use Rattle.cm_recognise.proofs.Lines.{line_goes_on}
 use Rattle.cm_state.specs.Edit.{before_fault, completed, completion, edit, edited, edited_as}
-use Rattle.cm_state.specs.SessionState.{SessionState, met_line}
+use Rattle.cm_state.specs.SessionState.{SessionState, line_before}
 
 -- bytes of a line
 abbrev pub AreLineBytes : List ℕ → Type 0
@@ -54,10 +54,10 @@ pushed_is_line line byte true fits text is =
     }
 pushed_is_line line byte false fits text is = is
 
-restorable_is_line : (line : List ℕ) (restorable : Option (List ℕ)) → IsLine line → IfSome restorable IsLine
-    → IsLine (unwrap_or restorable line)
-restorable_is_line line None is restorable_is = is
-restorable_is_line line (Some bytes) is restorable_is = restorable_is
+recall_is_line : (line : List ℕ) (recall : Option (List ℕ)) → IsLine line → IfSome recall IsLine
+    → IsLine (unwrap_or recall line)
+recall_is_line line None is recall_is = is
+recall_is_line line (Some bytes) is recall_is = recall_is
 
 joined_is_line : (line : List ℕ) → IsLine line → IsLine (joined line)
 joined_is_line line is = record {
@@ -67,35 +67,35 @@ joined_is_line line is = record {
       longer_is_plain (take (length line - 1) line) JOIN (prefix_is_plain (length line - 1) line is.plain) join_in_line;
 }
 
-edit_by_class : (class : KeyClass) (key : ℕ) (line : List ℕ) (restorable : Option (List ℕ)) (inserted : List ℕ)
-    → (class ≡ Text → is_text key ≡ true) → IsLine line → IfSome restorable IsLine → IsLine (line ++ inserted)
-    → IsLine (edit class key line restorable inserted)
-edit_by_class Text key line restorable inserted text is restorable_is longer_is =
+edit_by_class : (class : KeyClass) (key : ℕ) (line : List ℕ) (recall : Option (List ℕ)) (inserted : List ℕ)
+    → (class ≡ Text → is_text key ≡ true) → IsLine line → IfSome recall IsLine → IsLine (line ++ inserted)
+    → IsLine (edit class key line recall inserted)
+edit_by_class Text key line recall inserted text is recall_is longer_is =
     pushed_is_line line key (nat_lt (length line) LINE_LIMIT) refl (text refl) is
-edit_by_class Rub key line restorable inserted text is restorable_is longer_is =
+edit_by_class Rub key line recall inserted text is recall_is longer_is =
     prefix_is_line (length line - 1) line is
-edit_by_class Word key line restorable inserted text is restorable_is longer_is =
+edit_by_class Word key line recall inserted text is recall_is longer_is =
     prefix_is_line (word_start line) line is
-edit_by_class Erase key line restorable inserted text is restorable_is longer_is =
+edit_by_class Erase key line recall inserted text is recall_is longer_is =
     record { short = omega arith; plain = tt }
-edit_by_class Stop key line restorable inserted text is restorable_is longer_is =
+edit_by_class Stop key line recall inserted text is recall_is longer_is =
     record { short = omega arith; plain = tt }
-edit_by_class Back key line restorable inserted text is restorable_is longer_is =
-    restorable_is_line line restorable is restorable_is
-edit_by_class Join key line restorable inserted text is restorable_is longer_is = joined_is_line line is
-edit_by_class End key line restorable inserted text is restorable_is longer_is = is
-edit_by_class Show key line restorable inserted text is restorable_is longer_is = is
-edit_by_class Escape key line restorable inserted text is restorable_is longer_is = longer_is
-edit_by_class Part key line restorable inserted text is restorable_is longer_is = longer_is
-edit_by_class Help key line restorable inserted text is restorable_is longer_is = is
-edit_by_class Other key line restorable inserted text is restorable_is longer_is = is
+edit_by_class Back key line recall inserted text is recall_is longer_is =
+    recall_is_line line recall is recall_is
+edit_by_class Join key line recall inserted text is recall_is longer_is = joined_is_line line is
+edit_by_class End key line recall inserted text is recall_is longer_is = is
+edit_by_class Show key line recall inserted text is recall_is longer_is = is
+edit_by_class Escape key line recall inserted text is recall_is longer_is = longer_is
+edit_by_class Part key line recall inserted text is recall_is longer_is = longer_is
+edit_by_class Help key line recall inserted text is recall_is longer_is = is
+edit_by_class Other key line recall inserted text is recall_is longer_is = is
 
-pub edit_is_line : (held : SessionState) (key : ℕ) (inserted : List ℕ) → IsLine (met_line held)
-    → IfSome held.restorable IsLine
-    → IsLine (met_line held ++ inserted) → IsLine (edit (class_at (met_line held) key) key (met_line held) held.restorable inserted)
-edit_is_line held key inserted is restorable longer =
-    edit_by_class (class_at (met_line held) key) key (met_line held) held.restorable inserted
-    (text_at (met_line held) key) is restorable longer
+pub edit_is_line : (held : SessionState) (key : ℕ) (inserted : List ℕ) → IsLine (line_before held)
+    → IfSome held.recall IsLine
+    → IsLine (line_before held ++ inserted) → IsLine (edit (class_at (line_before held) key) key (line_before held) held.recall inserted)
+edit_is_line held key inserted is recall longer =
+    edit_by_class (class_at (line_before held) key) key (line_before held) held.recall inserted
+    (text_at (line_before held) key) is recall longer
 
 -- with what a key puts in that completes it, it is a line
 completed_is_line : (s : Setting) → grammar_fault s.graph ≡ None → IsCatalogue s.catalogue → AreTables s.graph.tables
@@ -118,13 +118,13 @@ completed_is_line s none named tables lawful Help ends line is = subst IsLine (s
 completed_is_line s none named tables lawful Other ends line is = subst IsLine (sym (append-nil line)) is
 
 pub edited_is_line : (s : Setting) → grammar_fault s.graph ≡ None → IsCatalogue s.catalogue → AreTables s.graph.tables
-    → IsLawful s.meanings → (held : SessionState) (key : ℕ) → IsLine (met_line held) → IfSome held.restorable IsLine
+    → IsLawful s.meanings → (held : SessionState) (key : ℕ) → IsLine (line_before held) → IfSome held.recall IsLine
     → IsLine (edited s held key).line
 unfolding edited_as
-edited_is_line s none named tables lawful held key is restorable =
-    edit_is_line held key (completed s held (class_at (met_line held) key)).bytes is restorable
-    (completed_is_line s none named tables lawful (class_at (met_line held) key) (parse_of s held.node (met_line held)).ending
-    (met_line held) is)
+edited_is_line s none named tables lawful held key is recall =
+    edit_is_line held key (completed s held (class_at (line_before held) key)).bytes is recall
+    (completed_is_line s none named tables lawful (class_at (line_before held) key) (parse_of s held.node (line_before held)).ending
+    (line_before held) is)
 
 -- the bytes before a fault are a line
 before_is_line : (line : List ℕ) (ends : Ending) → IsLine line → IfSome (before_fault line ends) IsLine
@@ -132,19 +132,19 @@ before_is_line line (ending.Open place) is = tt
 before_is_line line ending.Done is = tt
 before_is_line line (ending.Fault fault) is = prefix_is_line fault.at line is
 
-pub edited_restorable_is_line : (s : Setting) → grammar_fault s.graph ≡ None → IsCatalogue s.catalogue
-    → AreTables s.graph.tables → IsLawful s.meanings → (held : SessionState) (key : ℕ) → IsLine (met_line held)
-    → IfSome held.restorable IsLine → IfSome (edited s held key).restorable IsLine
+pub edited_recall_is_line : (s : Setting) → grammar_fault s.graph ≡ None → IsCatalogue s.catalogue
+    → AreTables s.graph.tables → IsLawful s.meanings → (held : SessionState) (key : ℕ) → IsLine (line_before held)
+    → IfSome held.recall IsLine → IfSome (edited s held key).recall IsLine
 unfolding edited_as
-edited_restorable_is_line s none named tables lawful held key is restorable =
-    cond_each (λ (restorable : Option (List ℕ)). IfSome restorable IsLine) (is_end (class_at (met_line held) key)) _ None
-    (before_is_line (edited s held key).line _ (edited_is_line s none named tables lawful held key is restorable)) tt
+edited_recall_is_line s none named tables lawful held key is recall =
+    cond_each (λ (recall : Option (List ℕ)). IfSome recall IsLine) (is_end (class_at (line_before held) key)) _ None
+    (before_is_line (edited s held key).line _ (edited_is_line s none named tables lawful held key is recall)) tt
 
--- control-H has a line to bring back behind a finished one alone, so that the next key meets an empty one
-pub edited_restorable_behind_an_end : (s : Setting) (held : SessionState) (key : ℕ)
-    → IfSome (edited s held key).restorable (λ (bytes : List ℕ). met_line (edited s held key) ≡ [])
+-- control-H has a line to bring back after a finished one alone, so that the next key meets an empty one
+pub edited_recall_after_an_end : (s : Setting) (held : SessionState) (key : ℕ)
+    → IfSome (edited s held key).recall (λ (bytes : List ℕ). line_before (edited s held key) ≡ [])
 unfolding edited_as
-edited_restorable_behind_an_end s held key = by (is_end (class_at (met_line held) key)) _ _ _
+edited_recall_after_an_end s held key = by (is_end (class_at (line_before held) key)) _ _ _
   where
     of_end : (line : List ℕ) (ends : Ending) → IfSome (before_fault line ends)
         (λ (bytes : List ℕ). ◌≡◌ {A = List ℕ} [] [])

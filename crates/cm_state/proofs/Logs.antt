@@ -1,4 +1,4 @@
--- The log of fields that are written one after another.
+-- [log-line] The log of fields that are written one after another.
 -- A line of the log is gathered on a Page: Left is the contract of make_room and put_fields, joined by left_on,
 -- left_more and left_written.
 use Rattle.std.proofs.Common.{◌≡◌, ℕ, ◌+◌, List, [], ◌∷◌, ◌++◌, length, take, Some, slice_get, get_or, ap, sym, subst, ◌∙◌, append_assoc}
@@ -21,7 +21,7 @@ pub no_fields : {T : Type 0} (s : Ghosts T) (a : Writer T) (page : List ℕ) →
 unfolding fields_log
 no_fields s a page = subst (λ whole. Left s a a page whole) (sym (append-nil page)) (left_whole s a page)
 
--- the fields before one, and that one behind them
+-- the fields before one, and that one after them
 fields_and_one : (fields : List FieldView) (number : ℕ) (field : FieldView) → slice_get fields number ≡ Some field
     → fields_log (take (number + 1) fields) ≡ fields_log (take number fields) ++ field_log field
 unfolding fields_log
@@ -49,7 +49,7 @@ field_more s a b c first before with_room now fields number field is puts room e
     subst (λ whole. Left s a c now whole) (sym text)
     (subst (λ rest. Left s a c rest ((first ++ fields_log (take number fields)) ++ field_log field)) (sym puts) more)
 
--- behind the fields comes a line feed, and the last page is put
+-- after the fields comes a line feed, and the last page is put
 pub line_put : {T : Type 0} (s : Ghosts T) (a b c : Writer T) (head page last : List ℕ) (key : ℕ) (held : SessionState)
     → head ≡ hex key ++ marked (codes " ") (length held.line) ++ ending_log held.ending
     → Left s a b page (head ++ fields_log held.fields) → last ≡ page ++ 10 ∷ [] → Writes s b c last

@@ -1,4 +1,4 @@
--- The rest of a parse behind fields: one field more, or its end.
+-- The rest of a parse after fields: one field more, or its end.
 -- Going on after known fields (parse_rest) is one loop, also where none are kept (kept_goes_on of cm_blocks).
 use Rattle.std.proofs.Common.{◌≡◌, ℕ, zero, suc, ◌+◌, ◌-◌, ◌<◌, List, [], ◌∷◌, ◌++◌, length, refl, ap, sym, ◌∙◌, append_assoc, append-nil, arith, length-append}
 use Rattle.cm_blocks.specs.declared.field.Chain.{Chain}
@@ -6,7 +6,7 @@ use Rattle.cm_blocks.specs.declared.field.Chain.TheVariants as chain
 use Rattle.cm_blocks.specs.declared.field.Ending.{Ending}
 use Rattle.cm_blocks.specs.declared.field.TheConstants.{FIELD_LIMIT}
 use Rattle.cm_blocks.specs.Chain.{chain_at}
-use Rattle.cm_blocks.specs.Kept.{cost_after, cost_from}
+use Rattle.cm_blocks.specs.KeptParse.{chain_cost, cost_from}
 use Rattle.cm_blocks.specs.Parse.{IsLast, Parse, after_chain, ending_of, parse_from, with_fields}
 use Rattle.cm_blocks.specs.Setting.{Setting}
 use Rattle.cm_blocks.specs.FieldView.{FieldView}
@@ -14,7 +14,7 @@ use Rattle.cm_blocks.specs.FieldView.{FieldView}
 abbrev parsed : Ending → List FieldView → Parse
 parsed ends fields = record { fields = fields; ending = ends }
 
--- behind these fields stands one more, and the parse goes on behind it
+-- after these fields stands one more, and the parse goes on after it
 pub record Turns (s : Setting) (text : List ℕ) (fields : List FieldView) (node at : ℕ) (field : FieldView) : Type 0
   where
     pub parse : with_fields fields (parse_from s text (FIELD_LIMIT - length fields) node at)
@@ -39,11 +39,11 @@ turns s text fields node at field is few =
           ∙ ap (parsed later.ending) (sym (append_assoc fields (field ∷ []) later.fields));
       cost =
           ap (λ (room : ℕ). cost_from s text room node at) room
-          ∙ ap (λ (answer : Chain). (chain_at s node text at).spent + cost_after
+          ∙ ap (λ (answer : Chain). (chain_at s node text at).spent + chain_cost
           (λ (field : FieldView). cost_from s text left field.next field.end) answer) is;
     }
 
--- behind these fields the parse ends so
+-- after these fields the parse ends so
 pub record Ends (s : Setting) (text : List ℕ) (fields : List FieldView) (room node at : ℕ) (ends : Ending) : Type 0
   where
     pub parse : with_fields fields (parse_from s text room node at) ≡ parsed ends fields
@@ -51,8 +51,8 @@ pub record Ends (s : Setting) (text : List ℕ) (fields : List FieldView) (room 
 
 ends_so : (s : Setting) (text : List ℕ) (fields : List FieldView) (room node at : ℕ) (answer : Chain)
     → (chain_at s node text at).chain ≡ answer
-    → ((behind : FieldView → Parse) → after_chain behind answer ≡ parsed (ending_of answer) [])
-    → ((behind : FieldView → ℕ) → cost_after behind answer ≡ 0) → Ends s text fields room node at (ending_of answer)
+    → ((after : FieldView → Parse) → after_chain after answer ≡ parsed (ending_of answer) [])
+    → ((after : FieldView → ℕ) → chain_cost after answer ≡ 0) → Ends s text fields room node at (ending_of answer)
 ends_so s text fields zero node at answer is stop free = record {
   parse =
       ap (λ (answer : Chain). with_fields fields (parsed (ending_of answer) [])) is
@@ -60,13 +60,13 @@ ends_so s text fields zero node at answer is stop free = record {
   cost = refl;
 }
 ends_so s text fields (suc room) node at answer is stop free =
-    let behind : FieldView → Parse = λ (field : FieldView). parse_from s text room field.next field.end in
+    let after : FieldView → Parse = λ (field : FieldView). parse_from s text room field.next field.end in
     let later : FieldView → ℕ = λ (field : FieldView). cost_from s text room field.next field.end in
-    let nothing : cost_after later (chain_at s node text at).chain ≡ 0 = ap (cost_after later) is ∙ free later in
+    let nothing : chain_cost later (chain_at s node text at).chain ≡ 0 = ap (chain_cost later) is ∙ free later in
     record {
       parse =
-          ap (λ (answer : Chain). with_fields fields (after_chain behind answer)) is
-          ∙ ap (with_fields fields) (stop behind)
+          ap (λ (answer : Chain). with_fields fields (after_chain after answer)) is
+          ∙ ap (with_fields fields) (stop after)
           ∙ ap (parsed (ending_of answer)) (append-nil fields);
       cost = omega (arith, nothing);
     }
@@ -76,8 +76,8 @@ pub ends_there : (s : Setting) (text : List ℕ) (fields : List FieldView) (room
     → (chain_at s node text at).chain ≡ answer → IsLast answer → Ends s text fields room node at (ending_of answer)
 ends_there s text fields room node at (chain.Field field) is last = absurd last
 ends_there s text fields room node at (chain.Done place) is last =
-    ends_so s text fields room node at (chain.Done place) is (λ behind. refl) (λ behind. refl)
+    ends_so s text fields room node at (chain.Done place) is (λ after. refl) (λ after. refl)
 ends_there s text fields room node at (chain.Fault fault) is last =
-    ends_so s text fields room node at (chain.Fault fault) is (λ behind. refl) (λ behind. refl)
+    ends_so s text fields room node at (chain.Fault fault) is (λ after. refl) (λ after. refl)
 ends_there s text fields room node at (chain.Open place) is last =
-    ends_so s text fields room node at (chain.Open place) is (λ behind. refl) (λ behind. refl)
+    ends_so s text fields room node at (chain.Open place) is (λ after. refl) (λ after. refl)

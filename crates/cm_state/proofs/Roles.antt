@@ -23,7 +23,7 @@ pub first_is : (wanted : Role) (fields : List FieldView) (found : Option FieldVi
 first_is wanted fields found is = is ∙ sym (find_is_first (λ (field : FieldView). is_role wanted field.role) fields)
 
 -- of the fields from a number on, those of a role begin with that one, where it has the role, and else they stand
--- behind it
+-- after it
 begins : (wanted : Role) (fields : List FieldView) (number : ℕ) (field : FieldView) (role : Role) (same : Bool)
     → slice_get fields number ≡ Some field → role ≡ field.role → is_role wanted role ≡ same
     → fields_of wanted (drop number fields)
@@ -43,7 +43,7 @@ passed wanted fields number left field role sought is has other so_far =
     ap (λ (them : List FieldView). slice_get them left)
     (sym (begins wanted fields number field role false is has other)) ∙ so_far
 
--- it is the one that is sought, or those behind it are searched for one fewer
+-- it is the one that is sought, or those after it are searched for one fewer
 pub found : (wanted : Role) (fields : List FieldView) (number left : ℕ) (field : FieldView) (role : Role)
     (sought : Option FieldView)
     → slice_get fields number ≡ Some field → role ≡ field.role → is_role wanted role ≡ true → left ≡ 0

@@ -8,14 +8,14 @@ use Rattle.std.proofs.lemmas.List.Sums.{common_prefix_len-le}
 use Rattle.cm_blocks.specs.declared.fault.TheConstants.{NODE_LIMIT, TABLE_LIMIT}
 use Rattle.cm_blocks.specs.Fault.{grammar_fault}
 use Rattle.cm_blocks.specs.Grammar.{Graph}
-use Rattle.cm_blocks.specs.Kept.{cost, cost_behind, kept, needing}
+use Rattle.cm_blocks.specs.KeptParse.{cost, cost_after, decided_within, kept}
 use Rattle.cm_blocks.specs.Parse.{IsParse, Parse, open_at, parse_of}
 use Rattle.cm_blocks.specs.Setting.{Setting}
 use Rattle.cm_blocks.specs.FieldView.{FieldView}
 use Rattle.cm_blocks.proofs.Parses.{parse_of_parses, start_is_open}
 use Rattle.cm_blocks.proofs.KeptFields.{kept_goes_on}
 use Rattle.cm_blocks.proofs.Wells.{sizes}
-use Rattle.cm_state.specs.SessionState.{SessionState, IsReady, at_start, met_line}
+use Rattle.cm_state.specs.SessionState.{SessionState, IsReady, at_start, line_before}
 use Rattle.cm_state.specs.Stack.{Starts}
 use Rattle.cm_state.specs.declared.prompt.Prompt.{Prompt}
 
@@ -27,8 +27,8 @@ start_parses s none node below =
     (parse_of_parses s node [])
 
 pub start_is_ready : (s : Setting) → grammar_fault s.graph ≡ None → (node : ℕ) → node < length s.graph.nodes
-    → (prompt : Prompt) → (restorable : Option (List ℕ)) → IsReady s (at_start node prompt restorable)
-start_is_ready s none node below prompt restorable =
+    → (prompt : Prompt) → (recall : Option (List ℕ)) → IsReady s (at_start node prompt recall)
+start_is_ready s none node below prompt recall =
     record { node = below; parse = λ unfinished. sym (start_is_open s none node below) }
 
 -- a grammar has a node
@@ -42,20 +42,20 @@ some_node graph none =
 
 -- so is what holds no more than a start
 pub started_is_ready : (s : Setting) → grammar_fault s.graph ≡ None → (node : ℕ) → node < length s.graph.nodes
-    → (prompt : Prompt) → (restorable : Option (List ℕ)) → (held : SessionState)
-    → held ≡ at_start node prompt restorable → IsReady s held
-started_is_ready s none node below prompt restorable held is =
-    subst (IsReady s) (sym is) (start_is_ready s none node below prompt restorable)
+    → (prompt : Prompt) → (recall : Option (List ℕ)) → (held : SessionState)
+    → held ≡ at_start node prompt recall → IsReady s held
+started_is_ready s none node below prompt recall held is =
+    subst (IsReady s) (sym is) (start_is_ready s none node below prompt recall)
 
-pub new_is_ready : (s : Setting) → grammar_fault s.graph ≡ None → (prompt : Prompt) → (restorable : Option (List ℕ))
+pub new_is_ready : (s : Setting) → grammar_fault s.graph ≡ None → (prompt : Prompt) → (recall : Option (List ℕ))
     → (held : SessionState)
-    → held ≡ at_start 0 prompt restorable → IsReady s held
-new_is_ready s none prompt restorable held is =
-    started_is_ready s none 0 (some_node s.graph none) prompt restorable held is
+    → held ≡ at_start 0 prompt recall → IsReady s held
+new_is_ready s none prompt recall held is =
+    started_is_ready s none 0 (some_node s.graph none) prompt recall held is
 
 -- the fields that a key finds are those of the line that it meets
 pub met_fields : (s : Setting) (held : SessionState) → grammar_fault s.graph ≡ None → IsReady s held
-    → (if held.is_finished then [] else held.fields) ≡ (parse_of s held.node (met_line held)).fields
+    → (if held.is_finished then [] else held.fields) ≡ (parse_of s held.node (line_before held)).fields
 met_fields s held none ready = by held.is_finished refl
   where
     by : (finished : Bool) → held.is_finished ≡ finished
@@ -65,7 +65,7 @@ met_fields s held none ready = by held.is_finished refl
 
 -- and so is the ending
 pub met_ending : (s : Setting) (held : SessionState) → grammar_fault s.graph ≡ None → IsReady s held
-    → (if held.is_finished then open_at held.node 0 else held.ending) ≡ (parse_of s held.node (met_line held)).ending
+    → (if held.is_finished then open_at held.node 0 else held.ending) ≡ (parse_of s held.node (line_before held)).ending
 met_ending s held none ready = by held.is_finished refl
   where
     by : (finished : Bool) → held.is_finished ≡ finished
@@ -89,7 +89,7 @@ none_kept : (s : Setting) → grammar_fault s.graph ≡ None → (node : ℕ) �
     → kept s node [] new ≡ []
 unfolding kept
 none_kept s none node below new =
-    ap (λ (parse : Parse). needing 0 parse.fields) (start_is_open s none node below)
+    ap (λ (parse : Parse). decided_within 0 parse.fields) (start_is_open s none node below)
 
 pub none_starts : (s : Setting) → grammar_fault s.graph ≡ None → (node : ℕ) → node < length s.graph.nodes
     → (new : List ℕ)
@@ -99,7 +99,7 @@ none_starts s none node below new =
 
 pub none_costs : (s : Setting) → grammar_fault s.graph ≡ None → (node : ℕ) → node < length s.graph.nodes
     → (new : List ℕ)
-    → cost s node [] new ≡ cost_behind s node new []
+    → cost s node [] new ≡ cost_after s node new []
 unfolding cost
 none_costs s none node below new =
-    ap (λ (fields : List FieldView). cost_behind s node new fields) (none_kept s none node below new)
+    ap (λ (fields : List FieldView). cost_after s node new fields) (none_kept s none node below new)

@@ -1,4 +1,4 @@
--- The verb of a line, and the fields behind it: by which blocks they are read, and which of them must be there.
+-- The verb of a line, and the fields after it: by which blocks they are read, and which of them must be there.
 -- A Branch says by which blocks a field is read, and IsWay that it is there.
 use Rattle.std.proofs.Common.{◌≡◌, ◌⊎◌, inl, inr, ℕ, ◌&&◌, ◌||◌, ◌==◌, Bool, true, false, not, if◌then◌else◌, List, [], ◌∷◌, drop, Option, Some, refl, ap, sym, subst, ◌∙◌, arith}
 use Rattle.std.specs.List.{find, list_all}
@@ -19,13 +19,13 @@ use Rattle.cm_blocks.specs.Chain.{chain_at}
 use Rattle.cm_blocks.specs.FieldView.{FieldView}
 use Rattle.cm_blocks.specs.Grammar.{Graph}
 use Rattle.cm_blocks.specs.Keyword.{code_at}
-use Rattle.cm_blocks.specs.Parse.{Follow, IsParse, ending_of, node_behind, place_behind}
+use Rattle.cm_blocks.specs.Parse.{Follow, IsParse, ending_of, node_after, place_after}
 use Rattle.cm_blocks.specs.Setting.{Setting}
 use Rattle.cm_blocks.specs.Trial.{entry_next, keyword_next, next_of, table_of}
 use Rattle.cm_blocks.proofs.Fields.{IsEnded, IsTried, chain_ended, chain_number, chain_tried}
 use Rattle.cm_blocks.proofs.Values.{IsKeyword, is_on_way, no_end, trial_says}
 use Rattle.cm_state.specs.Roles.{field_of, is_role}
-use Rattle.cm_state.proofs.Branches.{Begins, Branch, IsBranch, IsOf, all_from, all_pass_at, behind_end, behind_first, entry_leads, first_field, found_inside, inside_at, leads, leads_to, next_as, next_inside}
+use Rattle.cm_state.proofs.Branches.{Begins, Branch, IsBranch, IsOf, after_end, after_first, all_from, all_pass_at, entry_leads, first_field, found_inside, inside_at, leads, leads_to, next_as, next_inside}
 
 -- a block of a way reads the field, or leads on
 abbrev leads_on : Graph → Branch → Block → Bool
@@ -51,11 +51,11 @@ left : (test first later : Bool) → test ≡ false → (if test then first else
 left true first later test is = cc
 left false first later test is = is
 
--- what is found behind the first is found
-found_behind : (test : Bool) (first : FieldView) (later : Option FieldView) (found : FieldView) → test ≡ false
+-- what is found after the first is found
+found_after : (test : Bool) (first : FieldView) (later : Option FieldView) (found : FieldView) → test ≡ false
     → later ≡ Some found → (if test then Some first else later) ≡ Some found
-found_behind true first later found test is = cc
-found_behind false first later found test is = is
+found_after true first later found test is = cc
+found_after false first later found test is = is
 
 done_of : (answer : Chain) → ending.Done ≡ ending_of answer → (place : ℕ) × (answer ≡ chain.Done place)
 done_of (chain.Field field) is = cc
@@ -71,7 +71,7 @@ pub record IsVerb (s : Setting) (table : ℕ) (first verb : FieldView) : Type 0 
   pub next : first.next ≡ entry_next (table_of s.graph table) key.place
 
 -- the first field is not of the role, and leads inside
-record IsBehind (branch : Branch) (first : FieldView) : Type 0 where
+record IsAfter (branch : Branch) (first : FieldView) : Type 0 where
   inside : branch.inside first.next ≡ true
   other : is_role branch.role first.role ≡ false
 
@@ -91,12 +91,12 @@ pub record IsThere (s : Setting) (text : List ℕ) (branch : Branch) (fields : L
 -- in a grammar of which lines begin so; a code tells the verb of a keyword
 module _ (s : Setting) (start table : ℕ) (begins : Begins s.graph start table) (code : Value → ℕ)
     (codes : (place number : ℕ) → code (values.Key place number) ≡ number) (text : List ℕ) where
-  -- behind the end there is no verb
-  no_verb_behind : (node at : ℕ) (fields : List FieldView) (verb : FieldView) → node ≡ begins.end.next
+  -- after the end there is no verb
+  no_verb_after : (node at : ℕ) (fields : List FieldView) (verb : FieldView) → node ≡ begins.end.next
       → Follow s text node at fields → field_of roles.Verb fields ≡ Some verb → ⊥
-  no_verb_behind node at fields verb ended follow is =
+  no_verb_after node at fields verb ended follow is =
       let inside : (node == begins.end.next) ≡ true = grind (arith, nat_tests) in
-      let it = found_inside s (behind_end begins.end.next) begins.one_verb text node at fields verb inside follow is in
+      let it = found_inside s (after_end begins.end.next) begins.one_verb text node at fields verb inside follow is in
       let never = it.read in cc
 
   pub verb_first : (first : FieldView) (fields : List FieldView) (verb : FieldView) → Follow s text start 0 (first ∷ fields)
@@ -112,8 +112,8 @@ module _ (s : Setting) (start table : ℕ) (begins : Begins s.graph start table)
           ∙ next_as s.graph Confirm begins.end first.value begins.end_function (λ place. refl) in
           let none : first.role ≡ roles.None = role ∙ ap (λ (it : Block). it.role) same ∙ begins.end_role in
           let other : is_role roles.Verb first.role ≡ false = ap (is_role roles.Verb) none in
-          let later = behind_first (λ (it : FieldView). is_role roles.Verb it.role) first fields (Some verb) other is in
-          absurd (no_verb_behind first.next first.end fields verb ended follow.1 later)
+          let later = after_first (λ (it : FieldView). is_role roles.Verb it.role) first fields (Some verb) other is in
+          absurd (no_verb_after first.next first.end fields verb ended follow.1 later)
       by block role next (inr said) =
           let is_verb : first.role ≡ roles.Verb = role ∙ ap (λ (it : Block). it.role) said.0 ∙ begins.key_role in
           let test : is_role roles.Verb first.role ≡ true = ap (is_role roles.Verb) is_verb in
@@ -135,11 +135,11 @@ module _ (s : Setting) (start table : ℕ) (begins : Begins s.graph start table)
       let it = verb_first first fields verb parse.follow is in
       subst (λ (field : FieldView). IsKeyword s.graph table field.value) it.same it.key
 
-  behind : (branch : Branch) → branch.names 0 ≡ false → list_all (leads branch) (table_of s.graph table) ≡ true
+  after : (branch : Branch) → branch.names 0 ≡ false → list_all (leads branch) (table_of s.graph table) ≡ true
       → is_role branch.role roles.Verb ≡ false → (first : FieldView) (fields : List FieldView) (verb : FieldView)
       → Follow s text start 0 (first ∷ fields) → field_of roles.Verb (first ∷ fields) ≡ Some verb
-      → branch.names (code verb.value) ≡ true → IsBehind branch first
-  behind branch none commands other first fields verb follow is named =
+      → branch.names (code verb.value) ≡ true → IsAfter branch first
+  after branch none commands other first fields verb follow is named =
       let it = verb_first first fields verb follow is in
       let number = code_at (table_of s.graph table) it.key.place in
       let coded : number ≡ code verb.value = sym (codes it.key.place number)
@@ -150,16 +150,16 @@ module _ (s : Setting) (start table : ℕ) (begins : Begins s.graph start table)
         other = ap (is_role branch.role) it.role ∙ other;
       }
 
-  -- behind such a command the field of the role is read by such a block
-  pub behind_verb : (branch : Branch) → IsBranch s.graph table branch → (fields : List FieldView) (ends : Ending)
+  -- after such a command the field of the role is read by such a block
+  pub after_verb : (branch : Branch) → IsBranch s.graph table branch → (fields : List FieldView) (ends : Ending)
       (verb field : FieldView) → IsParse s start text fields ends → field_of roles.Verb fields ≡ Some verb
       → branch.names (code verb.value) ≡ true → field_of branch.role fields ≡ Some field
       → IsOf s text branch.reads field
-  behind_verb branch is_branch [] ends verb field parse verb_is named is = cc
-  behind_verb branch is_branch (first ∷ fields) ends verb field parse verb_is named is =
-      let it = behind branch is_branch.none is_branch.commands is_branch.other first fields verb parse.follow verb_is named in
+  after_verb branch is_branch [] ends verb field parse verb_is named is = cc
+  after_verb branch is_branch (first ∷ fields) ends verb field parse verb_is named is =
+      let it = after branch is_branch.none is_branch.commands is_branch.other first fields verb parse.follow verb_is named in
       found_inside s branch is_branch.nodes text first.next first.end fields field it.inside parse.follow.1
-      (behind_first (λ (it : FieldView). is_role branch.role it.role) first fields (Some field) it.other is)
+      (after_first (λ (it : FieldView). is_role branch.role it.role) first fields (Some field) it.other is)
 
   -- no line ends on the way
   no_end_inside : (branch : Branch) → IsWay s.graph table branch → (number : ℕ) → branch.inside number ≡ true
@@ -191,7 +191,7 @@ module _ (s : Setting) (start table : ℕ) (begins : Begins s.graph start table)
 
   there_ahead : (branch : Branch) → IsWay s.graph table branch → (node at : ℕ) (fields : List FieldView)
       → branch.inside node ≡ true → Follow s text node at fields
-      → ending.Done ≡ ending_of (chain_at s (node_behind node fields) text (place_behind at fields)).chain
+      → ending.Done ≡ ending_of (chain_at s (node_after node fields) text (place_after at fields)).chain
       → IsThere s text branch fields
   there_ahead branch way node at [] inside follow ends =
       let it = done_of (chain_at s node text at).chain ends in
@@ -214,22 +214,22 @@ module _ (s : Setting) (start table : ℕ) (begins : Begins s.graph start table)
           let it = later (step.next leads) in
           record {
             field = it.field;
-            found = found_behind (is_role branch.role first.role) first (field_of branch.role fields) it.field passes
+            found = found_after (is_role branch.role first.role) first (field_of branch.role fields) it.field passes
                 it.found;
             of = it.of;
           }
 
   -- a line of such a command has the field
-  pub there_behind : (branch : Branch) → IsWay s.graph table branch → (fields : List FieldView) (verb : FieldView)
+  pub there_after : (branch : Branch) → IsWay s.graph table branch → (fields : List FieldView) (verb : FieldView)
       → IsParse s start text fields ending.Done → field_of roles.Verb fields ≡ Some verb
       → branch.names (code verb.value) ≡ true → IsThere s text branch fields
-  there_behind branch way [] verb parse is named = cc
-  there_behind branch way (first ∷ fields) verb parse is named =
-      let it = behind branch way.none way.commands way.other first fields verb parse.follow is named in
+  there_after branch way [] verb parse is named = cc
+  there_after branch way (first ∷ fields) verb parse is named =
+      let it = after branch way.none way.commands way.other first fields verb parse.follow is named in
       let later = there_ahead branch way first.next first.end fields it.inside parse.follow.1 parse.ending in
       record {
         field = later.field;
-        found = found_behind (is_role branch.role first.role) first (field_of branch.role fields) later.field it.other
+        found = found_after (is_role branch.role first.role) first (field_of branch.role fields) later.field it.other
             later.found;
         of = later.of;
       }

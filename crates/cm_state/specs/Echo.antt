@@ -2,7 +2,7 @@
 use Rattle.std.specs.Prelude.{ℕ, ◌-◌, ◌==◌, Bool, true, false, List, [], ◌∷◌, ◌++◌, length, drop, nat_lt, is_some, codes, if◌then◌else◌}
 use Rattle.std.specs.List.{flat_map, list_any}
 use Rattle.cm_text.specs.declared.text.TheConstants.{JOIN, LINE_LIMIT}
-use Rattle.cm_text.specs.Shown.{bell, control_c, end_of_line, question, rubout, screen_byte, shown_byte}
+use Rattle.cm_text.specs.ScreenBytes.{bell, control_c, end_of_line, question, rubout, screen_byte, shown_byte}
 use Rattle.cm_io.specs.Pieces.{times}
 use Rattle.cm_line.specs.declared.key.KeyClass.{KeyClass}
 use Rattle.cm_line.specs.declared.key.KeyClass.TheVariants.{Text, End, Join, Rub, Word, Erase, Show, Back, Stop, Escape, Part, Help}
@@ -17,24 +17,25 @@ use Rattle.cm_help.specs.Help.{help_text}
 use Rattle.cm_state.specs.declared.prompt.Prompt.{Prompt}
 use Rattle.cm_state.specs.declared.prompt.Prompt.TheVariants.{Main, Sub, Own, Named}
 use Rattle.cm_state.specs.Label.{label_name}
-use Rattle.cm_state.specs.SessionState.{SessionState, met_line}
+use Rattle.cm_state.specs.SessionState.{SessionState, line_before}
 use Rattle.cm_state.specs.Edit.{completed, edited}
 
 -- a line on the screen: it goes on below each hyphen that continued it
 abbrev pub screen_line : List ℕ → List ℕ
 screen_line line = flat_map shown_byte line
 
+-- [prompt]
 unfoldable pub prompt_text : Prompt → List ℕ
 prompt_text Main = codes "@"
 prompt_text Sub = codes "@@"
 prompt_text (Own text) = text.now
 prompt_text (Named name mark) = label_name name ++ mark ∷ []
 
--- a line behind its prompt
+-- a line after its prompt
 unfoldable pub with_prompt : Prompt → List ℕ → List ℕ
 with_prompt prompt line = prompt_text prompt ++ screen_line line
 
--- the end of the line, and the line again behind its prompt
+-- the end of the line, and the line again after its prompt
 unfoldable pub again : Prompt → List ℕ → List ℕ
 again prompt line = end_of_line ++ with_prompt prompt line
 
@@ -76,27 +77,27 @@ ring true = bell
 ring false = []
 
 -- the echo of a key on a line of this size, from which it took a join byte or not, which control-H had a line to bring
--- back to or not, that left the session so; a key that completes shows the bytes that came to the line, and rings or
--- not
+-- back to or not, that left the session so; a key that completes shows the bytes that were added to the line, and rings
+-- or not
 abbrev pub echo_of : Setting → KeyClass → ℕ → ℕ → Bool → Bool → Bool → SessionState → List ℕ
-echo_of s Text key size joins restores rings now = if nat_lt size LINE_LIMIT then screen_byte key ∷ [] else bell
-echo_of s Rub key size joins restores rings now = taken_away joins now.prompt size now.line
-echo_of s Word key size joins restores rings now = taken_away joins now.prompt size now.line
-echo_of s Erase key size joins restores rings now = taken_away joins now.prompt size now.line
-echo_of s Show key size joins restores rings now = again now.prompt now.line
-echo_of s Help key size joins restores rings now =
+echo_of s Text key size joins restores rings_bell now = if nat_lt size LINE_LIMIT then screen_byte key ∷ [] else bell
+echo_of s Rub key size joins restores rings_bell now = taken_away joins now.prompt size now.line
+echo_of s Word key size joins restores rings_bell now = taken_away joins now.prompt size now.line
+echo_of s Erase key size joins restores rings_bell now = taken_away joins now.prompt size now.line
+echo_of s Show key size joins restores rings_bell now = again now.prompt now.line
+echo_of s Help key size joins restores rings_bell now =
     question ++ help_text s now.ending now.line ++ again now.prompt now.line
-echo_of s Back key size joins restores rings now = if restores then screen_line now.line else bell
-echo_of s Stop key size joins restores rings now = control_c ++ end_of_line
-echo_of s Escape key size joins restores rings now = drop size now.line ++ ring rings
-echo_of s Part key size joins restores rings now = drop size now.line ++ ring rings
-echo_of s Join key size joins restores rings now = end_of_line
-echo_of s End key size joins restores rings now = end_of_line ++ complaint now.ending
-echo_of s class key size joins restores rings now = bell
+echo_of s Back key size joins restores rings_bell now = if restores then screen_line now.line else bell
+echo_of s Stop key size joins restores rings_bell now = control_c ++ end_of_line
+echo_of s Escape key size joins restores rings_bell now = drop size now.line ++ ring rings_bell
+echo_of s Part key size joins restores rings_bell now = drop size now.line ++ ring rings_bell
+echo_of s Join key size joins restores rings_bell now = end_of_line
+echo_of s End key size joins restores rings_bell now = end_of_line ++ complaint now.ending
+echo_of s class key size joins restores rings_bell now = bell
 
--- the bytes that a key shows
+-- [key-echo] the bytes that a key shows
 unfoldable pub echo : Setting → SessionState → ℕ → List ℕ
 echo s held key =
-    let class = class_at (met_line held) key in
-    echo_of s class key (length (met_line held)) (takes_join class (met_line held)) (is_some held.restorable)
+    let class = class_at (line_before held) key in
+    echo_of s class key (length (line_before held)) (takes_join class (line_before held)) (is_some held.recall)
     (completed s held class).bell (edited s held key)

@@ -14,7 +14,7 @@ use Rattle.cm_blocks.specs.declared.field.Ending.TheVariants as ending
 use Rattle.cm_blocks.specs.FieldView.{FieldView}
 use Rattle.cm_state.specs.SessionState.{SessionState}
 
--- a number behind a text
+-- a number after a text
 unfoldable pub marked : List ℕ → ℕ → List ℕ
 marked mark number = mark ++ decimal number
 
@@ -79,7 +79,7 @@ field_log field =
 unfoldable pub fields_log : List FieldView → List ℕ
 fields_log fields = flat_map field_log fields
 
--- `KEY LENGTH ENDING`, each field, and a line feed
+-- [log-line] `KEY LENGTH ENDING`, each field, and a line feed
 unfoldable pub log_line : ℕ → SessionState → List ℕ
 log_line key held =
     hex key ++ marked (codes " ") (length held.line) ++ ending_log held.ending ++ fields_log held.fields ++ 10 ∷ []

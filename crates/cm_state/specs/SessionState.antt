@@ -15,15 +15,15 @@ pub record SessionState : Type 0 where
   pub is_finished : Bool
   pub fields : List FieldView
   pub ending : Ending
-  pub restorable : Option (List ℕ)
+  pub recall : Option (List ℕ)
 
 -- the whole text: the line, or the line and the CR that finished it
 abbrev pub text_of : SessionState → List ℕ
 text_of held = if held.is_finished then finished held.line else held.line
 
--- the line that a key meets: none behind a finished text
-abbrev pub met_line : SessionState → List ℕ
-met_line held = if held.is_finished then [] else held.line
+-- the line that a key meets: none after a finished text
+abbrev pub line_before : SessionState → List ℕ
+line_before held = if held.is_finished then [] else held.line
 
 -- the parse that is held
 abbrev pub parse_held : SessionState → Parse
@@ -31,14 +31,14 @@ parse_held held = record { fields = held.fields; ending = held.ending }
 
 -- an empty line that nothing is known of yet
 abbrev pub at_start : ℕ → Prompt → Option (List ℕ) → SessionState
-at_start node prompt restorable = record {
+at_start node prompt recall = record {
   node = node;
   prompt = prompt;
   line = [];
   is_finished = false;
   fields = [];
   ending = open_at node 0;
-  restorable = restorable;
+  recall = recall;
 }
 
 -- ready for a key under a grammar, a catalogue and the meanings of hooks: the start node is one of the grammar,

@@ -1,7 +1,7 @@
--- The fields that are held, and where the parse of a text goes on behind them.
+-- The fields that are held, and where the parse of a text goes on after them.
 use Rattle.std.specs.Prelude.{◌≡◌, ℕ, ◌+◌, ◌-◌, ◌<◌, ◌≤◌, nat_le, if◌then◌else◌, List, [], ◌∷◌, length, Option, Some, None}
 use Rattle.cm_blocks.specs.declared.field.TheConstants.{FIELD_LIMIT}
-use Rattle.cm_blocks.specs.Parse.{node_behind, parse_from, parse_of, place_behind, with_fields}
+use Rattle.cm_blocks.specs.Parse.{node_after, parse_from, parse_of, place_after, with_fields}
 use Rattle.cm_blocks.specs.Setting.{Setting}
 use Rattle.cm_blocks.specs.FieldView.{FieldView}
 
@@ -12,17 +12,17 @@ somes (None ∷ more) = []
 somes (Some field ∷ more) = field ∷ somes more
 
 -- the place, counted from this number on, of the first field that needs more than so many bytes
-abbrev pub first_needing : ℕ → ℕ → List (Option FieldView) → ℕ
-first_needing size number [] = number
-first_needing size number (None ∷ more) = number
-first_needing size number (Some field ∷ more) =
-    if nat_le field.need size then first_needing size (number + 1) more else number
+abbrev pub first_decided_within : ℕ → ℕ → List (Option FieldView) → ℕ
+first_decided_within size number [] = number
+first_decided_within size number (None ∷ more) = number
+first_decided_within size number (Some field ∷ more) =
+    if nat_le field.need size then first_decided_within size (number + 1) more else number
 
--- the parse of a text begins with these fields, and goes on behind them at a node of the grammar and in the text
+-- the parse of a text begins with these fields, and goes on after them at a node of the grammar and in the text
 pub record Starts (s : Setting) (start : ℕ) (text : List ℕ) (fields : List FieldView) : Type 0 where
   pub few : length fields ≤ FIELD_LIMIT
-  pub node : node_behind start fields < length s.graph.nodes
-  pub place : place_behind 0 fields ≤ length text
+  pub node : node_after start fields < length s.graph.nodes
+  pub place : place_after 0 fields ≤ length text
   pub parse : parse_of s start text
       ≡ with_fields fields (parse_from s text (FIELD_LIMIT - length fields)
-      (node_behind start fields) (place_behind 0 fields))
+      (node_after start fields) (place_after 0 fields))

@@ -1,4 +1,4 @@
--- What a key comes to.
+-- The outcome of a key.
 use Rattle.cm_io.specs.declared.sink.Put.{Put}
 use Rattle.cm_io.specs.declared.sink.Put.TheVariants.{Done, Failed}
 use Rattle.cm_line.specs.declared.key.KeyClass.{KeyClass}
@@ -22,7 +22,7 @@ end_turn (ending.Open place) = turn.Edited
 end_turn ending.Done = turn.Confirmed
 end_turn (ending.Fault fault) = turn.Refused fault
 
--- what a key of this class comes to
+-- [key-turn] the outcome of a key of this class
 abbrev pub turn_of : KeyClass → Ending → Turn
 turn_of End ending = end_turn ending
 turn_of Stop ending = turn.Abandoned

@@ -3,7 +3,7 @@
 
 ghost use Rattle.std.specs.Prelude.{◌≡◌, ◌+◌, ◌≤◌, ◌==◌, [], ◌∷◌, ◌++◌, length};
 ghost use Rattle.cm_io.specs.Writer.{Writes};
-ghost use Rattle.cm_text.specs.Shown.{end_of_line, question, shown_byte};
+ghost use Rattle.cm_text.specs.ScreenBytes.{end_of_line, question, shown_byte};
 ghost use Rattle.cm_text.specs.declared.text.TheConstants.{JOIN};
 ghost use Rattle.cm_blocks.specs.Setting.{setting};
 ghost use Rattle.cm_help.specs.Help.{help_text};
@@ -37,8 +37,8 @@ fn screen_line(line: &[u8]) -> ArrayVec<u8, SHOWN_LIMIT>
     bytes
 }
 
-// Puts a byte of a line, as it is shown, behind others.
-#[tactic(auto, unfolding(cm_text::specs::Shown::shown_byte, cm_text::specs::Shown::join_shown, cm_text::specs::Shown::end_of_line))]
+// Puts a byte of a line, as it is shown, after others.
+#[tactic(auto, unfolding(cm_text::specs::ScreenBytes::shown_byte, cm_text::specs::ScreenBytes::join_shown, cm_text::specs::ScreenBytes::end_of_line))]
 fn push_shown(byte: u8, bytes: &mut ArrayVec<u8, SHOWN_LIMIT>)
     requires { length bytes.old.items + 3 ≤ SHOWN_LIMIT }
     ensures shown { bytes.new.items ≡ bytes.old.items ++ shown_byte byte }
@@ -72,7 +72,7 @@ pub(crate) fn put_prompt<S: Sink>(prompt: &Prompt, out: &mut Writer<'_, S>)
     }
 }
 
-// Shows a name and the mark behind it.
+// Shows a name and the mark after it.
 fn put_named<S: Sink>(name: &Label, mark: u8, out: &mut Writer<'_, S>)
     ensures { Writes S.Sink out.old out.new (label_name name.now ++ mark ∷ []) }
 {
@@ -80,7 +80,7 @@ fn put_named<S: Sink>(name: &Label, mark: u8, out: &mut Writer<'_, S>)
     out.put(&[mark]);
 }
 
-// Shows a line behind its prompt.
+// Shows a line after its prompt.
 #[tactic(auto, using(cm_io::proofs::Texts::texts), unfolding(crate::specs::Echo::with_prompt))]
 pub(crate) fn put_with_prompt<S: Sink>(prompt: &Prompt, line: &[u8], out: &mut Writer<'_, S>)
     requires { length line.now ≤ LINE_LIMIT }
@@ -90,7 +90,7 @@ pub(crate) fn put_with_prompt<S: Sink>(prompt: &Prompt, line: &[u8], out: &mut W
     put_screen_line(line, out);
 }
 
-// Shows the end of the line, and the line again behind its prompt.
+// Shows the end of the line, and the line again after its prompt.
 #[tactic(auto, using(cm_io::proofs::Texts::texts), unfolding(crate::specs::Echo::again))]
 pub(crate) fn put_again<S: Sink>(prompt: &Prompt, line: &[u8], out: &mut Writer<'_, S>)
     requires { length line.now ≤ LINE_LIMIT }
@@ -100,7 +100,7 @@ pub(crate) fn put_again<S: Sink>(prompt: &Prompt, line: &[u8], out: &mut Writer<
     put_with_prompt(prompt, line, out);
 }
 
-// Shows what may come behind the line, and the line again.
+// Shows what may come after the line, and the line again.
 pub(crate) fn put_help_and_line<N: Names, R: Rules, S: Sink>(
     grammar: &Grammar,
     ending: Ending,
@@ -163,13 +163,13 @@ pub(crate) fn put_taken<S: Sink>(
     }
 }
 
-// Shows what came to the line, and rings or not.
+// Shows what was added to the line, and rings or not.
 #[tactic(auto, using(cm_io::proofs::Texts::texts), unfolding(crate::specs::Echo::ring))]
-pub(crate) fn put_inserted<S: Sink>(bytes: &[u8], rings: bool, out: &mut Writer<'_, S>)
-    ensures { Writes S.Sink out.old out.new (bytes.now ++ ring rings) }
+pub(crate) fn put_inserted<S: Sink>(bytes: &[u8], rings_bell: bool, out: &mut Writer<'_, S>)
+    ensures { Writes S.Sink out.old out.new (bytes.now ++ ring rings_bell) }
 {
     out.put(bytes);
-    out.put(if rings { bell() } else { b"" });
+    out.put(if rings_bell { bell() } else { b"" });
 }
 
 // Ends the line on the screen, and shows what a refused line shows.

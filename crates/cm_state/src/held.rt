@@ -5,7 +5,7 @@ ghost use Rattle.cm_text.specs.Text.{IsLine, finished};
 ghost use Rattle.cm_blocks.specs.Parse.{open_at};
 ghost use Rattle.cm_state.specs.Edit.{before_fault};
 
-use crate::restorable::Restorable;
+use crate::recall::Recall;
 use cm_blocks::{Ending, Open};
 use cm_line::Line;
 use cm_text::TEXT_LIMIT;
@@ -23,17 +23,12 @@ pub(crate) fn text_of(line: &Line, is_finished: bool) -> &[u8]
 }
 
 // Holds of a refused line the bytes before its faulty field, and of any other nothing.
-pub(crate) fn hold_before_fault(
-    is_finished: bool,
-    line: &Line,
-    ending: Ending,
-    restorable: &mut Restorable,
-)
-    ensures { restorable.new ≡ (if is_finished then before_fault line.now ending else None) }
+pub(crate) fn hold_before_fault(is_finished: bool, line: &Line, ending: Ending, recall: &mut Recall)
+    ensures { recall.new ≡ (if is_finished then before_fault line.now ending else None) }
 {
     match ending {
-        Ending::Fault(fault) if is_finished => restorable.hold(line, usize::from(fault.at)),
-        _ => restorable.forget(),
+        Ending::Fault(fault) if is_finished => recall.hold(line, usize::from(fault.at)),
+        _ => recall.forget(),
     }
 }
 

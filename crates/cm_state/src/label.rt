@@ -1,8 +1,8 @@
 // Short names that are copied.
 ghost use Rattle.std.specs.Prelude.{◌≡◌, ◌≤◌, length};
-ghost use Rattle.cm_state.specs.Label.{label_cells, label_name, label_of};
+ghost use Rattle.cm_state.specs.Label.{label_name, label_of};
 
-use cm_text::{NAME_LIMIT, Name};
+use cm_text::{NAME_LIMIT, Name, pad};
 
 /// The name in a prompt that is made at run time: at most 39 bytes, which lie in the value itself and are copied with
 /// it. One name is one label.
@@ -21,7 +21,7 @@ impl Label {
     {
         let text = name.as_bytes();
         Label {
-            cells: cells_of(text),
+            cells: pad(text),
             size: text.len() as u8,
         }
     }
@@ -34,14 +34,4 @@ impl Label {
     {
         &self.cells[..usize::from(self.size).min(NAME_LIMIT)]
     }
-}
-
-// The cells of a name.
-fn cells_of(text: &[u8]) -> [u8; NAME_LIMIT]
-    requires { length text.now ≤ NAME_LIMIT }
-    ensures { result ≡ label_cells text.now }
-{
-    let mut cells = [0; NAME_LIMIT];
-    cells[..text.len()].copy_from_slice(text);
-    cells
 }

@@ -6,13 +6,13 @@ ghost use Rattle.cm_line.specs.Keys.{class_at};
 ghost use Rattle.cm_files.specs.Catalogue.{IsCatalogue};
 ghost use Rattle.cm_hooks.specs.Meanings.{IsLawful};
 ghost use Rattle.cm_blocks.specs.Fault.{grammar_fault};
-ghost use Rattle.cm_blocks.specs.Kept.{BeginsWith, kept};
+ghost use Rattle.cm_blocks.specs.KeptParse.{BeginsWith, kept};
 ghost use Rattle.cm_blocks.specs.Parse.{IsParse, open_at, parse_of};
 ghost use Rattle.cm_blocks.specs.Setting.{Setting};
 ghost use Rattle.cm_blocks.specs.Well.{AreTables};
 ghost use Rattle.cm_state.specs.Edit.{edit, edited};
 ghost use Rattle.cm_state.specs.Label.{label_name, label_of};
-ghost use Rattle.cm_state.specs.SessionState.{SessionState, IsReady, at_start, met_line};
+ghost use Rattle.cm_state.specs.SessionState.{SessionState, IsReady, at_start, line_before};
 ghost use Rattle.cm_state.specs.declared.prompt.Prompt.{Prompt};
 
 /// What a new session holds, and what one holds that begins a line at a node of a grammar, is the parse of its empty
@@ -25,31 +25,31 @@ pub fn a_start_is_a_parse()
 /// Such a session is ready for a key under every grammar that has the node.
 pub fn a_start_is_ready()
     ensures { (s : Setting) → grammar_fault s.graph ≡ None → (node : ℕ) → node < length s.graph.nodes
-        → (prompt : Prompt) → (restorable : Option (List ℕ)) → IsReady s (at_start node prompt restorable) }
+        → (prompt : Prompt) → (recall : Option (List ℕ)) → IsReady s (at_start node prompt recall) }
 {}
 
 /// What a key makes of a line is a line, where what control-H brings back is one, and the line is one with what a
 /// key puts in that completes it.
 pub fn the_edit_is_a_line()
-    ensures { (held : SessionState) → (key : ℕ) → (inserted : List ℕ) → IsLine (met_line held)
-        → IfSome held.restorable IsLine → IsLine (met_line held ++ inserted)
-        → IsLine (edit (class_at (met_line held) key) key (met_line held) held.restorable inserted) }
+    ensures { (held : SessionState) → (key : ℕ) → (inserted : List ℕ) → IsLine (line_before held)
+        → IfSome held.recall IsLine → IsLine (line_before held ++ inserted)
+        → IsLine (edit (class_at (line_before held) key) key (line_before held) held.recall inserted) }
 {}
 
 /// A key leaves a line, and a line is what it leaves for control-H, where the key met such: under an accepted grammar,
-/// a catalogue and lawful meanings. Bytes are left for control-H behind a finished line alone, so that the key after it
+/// a catalogue and lawful meanings. Bytes are left for control-H after a finished line alone, so that the key after it
 /// meets an empty one.
 pub fn a_key_leaves_a_line()
     ensures line { (s : Setting) → grammar_fault s.graph ≡ None → IsCatalogue s.catalogue → AreTables s.graph.tables
-        → IsLawful s.meanings → (held : SessionState) → (key : ℕ) → IsLine (met_line held)
-        → IfSome held.restorable IsLine
+        → IsLawful s.meanings → (held : SessionState) → (key : ℕ) → IsLine (line_before held)
+        → IfSome held.recall IsLine
         → IsLine (edited s held key).line }
-    ensures restorable { (s : Setting) → grammar_fault s.graph ≡ None → IsCatalogue s.catalogue
-        → AreTables s.graph.tables → IsLawful s.meanings → (held : SessionState) → (key : ℕ) → IsLine (met_line held)
-        → IfSome held.restorable IsLine
-        → IfSome (edited s held key).restorable IsLine }
+    ensures recall { (s : Setting) → grammar_fault s.graph ≡ None → IsCatalogue s.catalogue
+        → AreTables s.graph.tables → IsLawful s.meanings → (held : SessionState) → (key : ℕ) → IsLine (line_before held)
+        → IfSome held.recall IsLine
+        → IfSome (edited s held key).recall IsLine }
     ensures empty { (s : Setting) → (held : SessionState) → (key : ℕ)
-        → IfSome (edited s held key).restorable (λ bytes. met_line (edited s held key) ≡ []) }
+        → IfSome (edited s held key).recall (λ bytes. line_before (edited s held key) ≡ []) }
 {}
 
 /// The fields that are kept of an old text are the first fields of the new one.
@@ -58,7 +58,7 @@ pub fn the_kept_fields_are_a_prefix()
         → BeginsWith (kept s node old new) (parse_of s node new).fields }
 {}
 
-/// The label of a name has that name: so a meaning says with it which prompt a state has, and what that shows.
+/// The label of a name has that name: so a program says with it which prompt a state has, and what that shows.
 pub fn a_label_has_its_name()
     ensures { (name : List ℕ) → length name ≤ NAME_LIMIT → label_name (label_of name) ≡ name }
 {}

@@ -8,7 +8,7 @@ pub mod laws;
 mod log;
 mod parse;
 mod prompt;
-mod restorable;
+mod recall;
 mod said;
 mod session;
 mod stack;

@@ -15,13 +15,13 @@ use cm_fields::{FileKind, Value};
 use cm_io::{PAGE_LIMIT, Page, Sink, Writer};
 use cm_text::DIGIT_LIMIT;
 
-// The most bytes of a number behind a text of at most two bytes.
+// The most bytes of a number after a text of at most two bytes.
 const MARKED_ROOM: usize = DIGIT_LIMIT + 2;
 
 // The most bytes of a field, six numbers and the sign of a default, and the line feed that may follow it.
 const FIELD_ROOM: usize = 6 * MARKED_ROOM + 2;
 
-// A number behind a text.
+// A number after a text.
 #[inline(always)]
 #[tactic(auto, unfolding(crate::specs::Log::marked))]
 fn push_marked(mark: &[u8], number: u64, page: &mut Page)
@@ -46,7 +46,7 @@ fn push_fault(fault: Fault, page: &mut Page)
     push_marked(b"@", u64::from(fault.at), page);
 }
 
-// What stands behind the last field.
+// What stands after the last field.
 #[tactic(auto, unfolding(crate::specs::Log::ending_log))]
 fn push_ending(ending: Ending, page: &mut Page)
     requires { length page.old + 3 * MARKED_ROOM ≤ PAGE_LIMIT }
@@ -60,7 +60,7 @@ fn push_ending(ending: Ending, page: &mut Page)
     }
 }
 
-// The key, the size of the line, and what stands behind the last field.
+// The key, the size of the line, and what stands after the last field.
 pub(crate) fn push_head(key: u8, size: usize, ending: Ending, page: &mut Page)
     requires { page.old ≡ [] }
     ensures value { page.new ≡ hex key ++ marked (codes " ") size ++ ending_log ending }
@@ -179,7 +179,7 @@ fn make_room<S: Sink>(page: &mut Page, out: &mut Writer<'_, S>)
     page.clear();
 }
 
-// Puts the fields behind what the page has. The last of them stay on it.
+// Puts the fields after what the page has. The last of them stay on it.
 #[tactic(auto, using(crate::proofs::Logs::no_fields, crate::proofs::Logs::field_more))]
 pub(crate) fn put_fields<S: Sink>(fields: &Stack, page: &mut Page, out: &mut Writer<'_, S>)
     requires { length page.old < PAGE_LIMIT }

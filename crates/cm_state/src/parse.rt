@@ -1,7 +1,7 @@
-// The parse of a text, behind the fields that are known already.
+// The parse of a text, after the fields that are known already.
 ghost use Rattle.std.specs.Prelude.{◌≡◌, ◌+◌, ◌-◌, ◌<◌, ◌≤◌, length};
 ghost use Rattle.cm_text.specs.declared.text.TheConstants.{TEXT_LIMIT};
-ghost use Rattle.cm_blocks.specs.Kept.{cost_behind};
+ghost use Rattle.cm_blocks.specs.KeptParse.{cost_after};
 ghost use Rattle.cm_blocks.specs.declared.field.Chain.TheVariants as chain;
 ghost use Rattle.cm_blocks.specs.Parse.{ending_of, parse_of};
 ghost use Rattle.cm_blocks.specs.Setting.{setting};
@@ -25,7 +25,7 @@ fn too_many(field: &Field) -> Ending
     })
 }
 
-// Parses the rest of a text, behind the fields that it begins with: puts the others behind them, and answers how it
+// Parses the rest of a text, after the fields that it begins with: puts the others after them, and answers how it
 // ends.
 pub(crate) fn parse_rest<N: Names, R: Rules, L: Ledger>(
     grammar: &Grammar,
@@ -42,10 +42,10 @@ pub(crate) fn parse_rest<N: Names, R: Rules, L: Ledger>(
     ensures parse { record { fields = fields.new; ending = result }
         ≡ parse_of (setting grammar.now (N.catalogue names.now) (R.meanings rules.now)) start text.now }
     ensures steps { steps.new ≡ steps.old
-        + cost_behind (setting grammar.now (N.catalogue names.now) (R.meanings rules.now)) start text.now fields.old }
+        + cost_after (setting grammar.now (N.catalogue names.now) (R.meanings rules.now)) start text.now fields.old }
 {
-    let mut node = fields.node_behind(start);
-    let mut at = fields.place_behind();
+    let mut node = fields.node_after(start);
+    let mut at = fields.place_after();
     loop {
         match try_chain(grammar, node, text, at, names, rules, steps) {
             Chain::Field(field) => {

@@ -2,7 +2,7 @@
 ghost use Rattle.std.specs.Prelude.{◌≡◌, option_copied};
 ghost use Rattle.std.specs.Str.{IsAscii};
 ghost use Rattle.cm_files.specs.Spec.{part};
-ghost use Rattle.cm_state.specs.Said.{default_of, node_of, said_in, said_of, span_of};
+ghost use Rattle.cm_state.specs.FieldText.{default_of, node_of, said_in, said_of, span_of};
 
 use cm_blocks::{Field, Grammar, Node};
 use cm_fields::{Span, Value};

@@ -3,16 +3,16 @@ ghost use Rattle.std.specs.Prelude.{◌≡◌, ◌+◌, ◌≤◌, ◌<◌, true
 ghost use Rattle.cm_text.specs.Bytes.{is_text};
 ghost use Rattle.cm_text.specs.Text.{ends_in_hyphen};
 ghost use Rattle.cm_line.specs.Keys.{class_at};
-ghost use Rattle.cm_io.specs.Told.{Adds};
+ghost use Rattle.cm_io.specs.Contents.{Adds};
 ghost use Rattle.cm_io.specs.Fault.{PutCause};
 ghost use Rattle.cm_io.specs.Writer.{Writes};
 ghost use Rattle.cm_blocks.specs.Fault.{grammar_fault};
-ghost use Rattle.cm_blocks.specs.Kept.{BeginsWith, cost, kept, needing};
+ghost use Rattle.cm_blocks.specs.KeptParse.{BeginsWith, cost, decided_within, kept};
 ghost use Rattle.cm_blocks.specs.Parse.{IsParse, open_at};
 ghost use Rattle.cm_blocks.specs.Setting.{Setting, setting};
 ghost use Rattle.cm_state.specs.Edit.{completed, edited};
 ghost use Rattle.cm_state.specs.Echo.{echo, echo_of, prompt_text, takes_join};
-ghost use Rattle.cm_state.specs.SessionState.{SessionState, IsReady, at_start, met_line, text_of};
+ghost use Rattle.cm_state.specs.SessionState.{SessionState, IsReady, at_start, line_before, text_of};
 ghost use Rattle.cm_state.specs.Log.{log_line};
 ghost use Rattle.cm_state.specs.Turn.{put_of, turn_of};
 
@@ -22,7 +22,7 @@ use crate::echo::{
 };
 use crate::held::open_at;
 use crate::log::{push_head, put_fields};
-use crate::restorable::Restorable;
+use crate::recall::Recall;
 use crate::stack::Stack;
 use crate::{Prompt, Turn};
 use cm_blocks::{Ending, Grammar, Steps};
@@ -36,7 +36,7 @@ use std::sync::ledger::Ledger;
 
 mod again;
 mod editing;
-mod told;
+mod view;
 
 // A key and the line that it met: of which size, whether a join byte goes, and whether control-H had a line to bring
 // back. A key that completed the line rings or not.
@@ -47,7 +47,7 @@ struct Keystroke {
     size: usize,
     joins: bool,
     restores: bool,
-    rings: bool,
+    rings_bell: bool,
 }
 
 /// A command line: the line under edit, its parse as it then stands, and what control-H may bring back.
@@ -59,7 +59,7 @@ pub struct Session {
     is_finished: bool,
     fields: Stack,
     ending: Ending,
-    restorable: Restorable,
+    recall: Recall,
 }
 
 impl Model for Session {
@@ -75,7 +75,7 @@ impl Model for Session {
       is_finished = s.is_finished;
       fields = s.fields;
       ending = s.ending;
-      restorable = s.restorable;
+      recall = s.recall;
     } };
 }
 
@@ -92,18 +92,19 @@ impl Session {
     /// Begins a line: shows the prompt, and puts the session at the start of the node, also where the sink
     /// fails. What control-H brings back stays.
     pub fn begin<S: Sink>(&mut self, node: u16, prompt: Prompt, sink: &mut S) -> Put
-        ensures session { self.new ≡ at_start node prompt self.old.restorable }
+        ensures session { self.new ≡ at_start node prompt self.old.recall }
         // It is ready for a key under every grammar that has the node.
         ensures ready { (s : Setting) → grammar_fault s.graph ≡ None → node < length s.graph.nodes
             → IsReady s self.new }
-        ensures bytes { Adds (S.told sink.old) (S.told sink.new) (prompt_text prompt) result }
+        // [prompt]
+        ensures bytes { Adds (S.contents sink.old) (S.contents sink.new) (prompt_text prompt) result }
         ensures later { S.faults sink.old ≤ S.faults sink.new }
         ensures cause { PutCause (S.faults sink.old) (S.faults sink.new) result }
     {
         self.start(node, prompt);
         let mut out = Writer::new(sink);
         put_prompt(&self.prompt, &mut out);
-        out.went()
+        out.outcome()
     }
 
     /// Takes one key: edits the line, holds the parse of the text as it then stands, and shows the echo. The fields
@@ -124,45 +125,47 @@ impl Session {
         steps: &mut Steps<L>,
     ) -> Turn
         requires ready { IsReady (setting grammar.now (N.catalogue names.now) (R.meanings rules.now)) self.old }
-        // The line, what control-H brings back, and the parse after the key.
+        // [key-line] The line, what control-H brings back, and the parse after the key.
         ensures edited { self.new ≡ edited (setting grammar.now (N.catalogue names.now) (R.meanings rules.now))
             self.old key }
-        // What is held is the parse of the whole text.
+        // [key-parse] What is held is the parse of the whole text.
         ensures parse { IsParse (setting grammar.now (N.catalogue names.now) (R.meanings rules.now))
             self.new.node (text_of self.new) self.new.fields self.new.ending }
         ensures ready { IsReady (setting grammar.now (N.catalogue names.now) (R.meanings rules.now)) self.new }
         // It begins with the fields that the unchanged front decides.
         ensures keeps { BeginsWith (kept (setting grammar.now (N.catalogue names.now) (R.meanings rules.now))
-            self.old.node (met_line self.old) (text_of self.new)) self.new.fields }
-        ensures turn { put_of result ≡ Put.Done → result ≡ turn_of (class_at (met_line self.old) key) self.new.ending }
+            self.old.node (line_before self.old) (text_of self.new)) self.new.fields }
+        // [key-turn]
+        ensures turn { put_of result ≡ Put.Done
+            → result ≡ turn_of (class_at (line_before self.old) key) self.new.ending }
 
-        // What the key shows.
-        ensures bytes { Adds (S.told sink.old) (S.told sink.new)
+        // [key-echo] What the key shows.
+        ensures bytes { Adds (S.contents sink.old) (S.contents sink.new)
             (echo (setting grammar.now (N.catalogue names.now) (R.meanings rules.now)) self.old key) (put_of result) }
         ensures later { S.faults sink.old ≤ S.faults sink.new }
         ensures cause { PutCause (S.faults sink.old) (S.faults sink.new) (put_of result) }
 
-        // What the trials cost behind the fields that are kept: that of the ending alone where the line stays.
+        // What the trials cost after the fields that are kept: that of the ending alone where the line stays.
         ensures steps { steps.new ≡ steps.old + cost
             (setting grammar.now (N.catalogue names.now) (R.meanings rules.now))
-            self.old.node (met_line self.old) (text_of self.new) }
+            self.old.node (line_before self.old) (text_of self.new) }
     {
         let class = self.class(key);
         let size = self.met_size();
         let joins = self.takes_join(class);
-        let restores = self.restorable.is_some();
-        let rings = self.edit_and_parse(class, key, grammar, names, rules, steps);
-        let stroke = Keystroke {
+        let restores = self.recall.is_some();
+        let rings_bell = self.edit_and_parse(class, key, grammar, names, rules, steps);
+        let keystroke = Keystroke {
             class,
             key,
             size,
             joins,
             restores,
-            rings,
+            rings_bell,
         };
         let mut out = Writer::new(sink);
-        self.echo(stroke, grammar, names, rules, &mut out);
-        match out.went() {
+        self.echo(keystroke, grammar, names, rules, &mut out);
+        match out.outcome() {
             Put::Done => self.turn(class),
             Put::Failed => Turn::Failed,
         }
@@ -171,13 +174,14 @@ impl Session {
     /// Puts the line of the log that tells of a key and of the parse held after it: the key, the length of
     /// the line, the ending and each field.
     pub fn log_line<S: Sink>(&self, key: u8, sink: &mut S) -> Put
-        ensures bytes { Adds (S.told sink.old) (S.told sink.new) (log_line key self.now) result }
+        // [log-line]
+        ensures bytes { Adds (S.contents sink.old) (S.contents sink.new) (log_line key self.now) result }
         ensures later { S.faults sink.old ≤ S.faults sink.new }
         ensures cause { PutCause (S.faults sink.old) (S.faults sink.new) result }
     {
         let mut out = Writer::new(sink);
         self.put_log(key, &mut out);
-        out.went()
+        out.outcome()
     }
 
     // A session at its start.
@@ -191,13 +195,13 @@ impl Session {
             is_finished: false,
             fields: Stack::new(),
             ending: open_at(0),
-            restorable: Restorable::new(),
+            recall: Recall::new(),
         }
     }
 
     // Puts the session at the start of a node.
     fn start(&mut self, node: u16, prompt: Prompt)
-        ensures { self.new ≡ at_start node prompt self.old.restorable }
+        ensures { self.new ≡ at_start node prompt self.old.recall }
     {
         self.node = node;
         self.prompt = prompt;
@@ -210,9 +214,9 @@ impl Session {
     // The class of a key on the line that it meets.
     #[tactic(auto, using(cm_line::proofs::ClassLaws::class_at_none, cm_line::proofs::ClassLaws::none_joins))]
     fn class(&self, key: u8) -> KeyClass
-        ensures value { result ≡ class_at (met_line self.now) key }
+        ensures value { result ≡ class_at (line_before self.now) key }
         ensures text { result ≡ KeyClass.Text → is_text key ≡ true }
-        ensures join { result ≡ KeyClass.Join → ends_in_hyphen (met_line self.now) ≡ true }
+        ensures join { result ≡ KeyClass.Join → ends_in_hyphen (line_before self.now) ≡ true }
     {
         if self.is_finished {
             KeyClass::of(key)
@@ -224,7 +228,7 @@ impl Session {
     // Whether a key of this class takes a join byte away from the line that it meets.
     #[tactic(auto, using(crate::proofs::ScreenLines::nothing_goes))]
     fn takes_join(&self, class: KeyClass) -> bool
-        ensures { result ≡ takes_join class (met_line self.now) }
+        ensures { result ≡ takes_join class (line_before self.now) }
     {
         if self.is_finished {
             false
@@ -235,7 +239,7 @@ impl Session {
 
     // The size of the line that a key meets.
     fn met_size(&self) -> usize
-        ensures value { result ≡ length (met_line self.now) }
+        ensures value { result ≡ length (line_before self.now) }
         ensures within { result ≤ LINE_LIMIT }
     {
         if self.is_finished {
@@ -256,9 +260,9 @@ impl Session {
         rules: &R,
         steps: &mut Steps<L>,
     ) -> bool
-        requires class { class ≡ class_at (met_line self.old) key }
+        requires class { class ≡ class_at (line_before self.old) key }
         requires text { class ≡ KeyClass.Text → is_text key ≡ true }
-        requires join { class ≡ KeyClass.Join → ends_in_hyphen (met_line self.old) ≡ true }
+        requires join { class ≡ KeyClass.Join → ends_in_hyphen (line_before self.old) ≡ true }
         requires ready { IsReady (setting grammar.now (N.catalogue names.now) (R.meanings rules.now)) self.old }
         ensures edited { self.new ≡ edited (setting grammar.now (N.catalogue names.now) (R.meanings rules.now))
             self.old key }
@@ -266,24 +270,24 @@ impl Session {
             self.new.node (text_of self.new) self.new.fields self.new.ending }
         ensures ready { IsReady (setting grammar.now (N.catalogue names.now) (R.meanings rules.now)) self.new }
         ensures keeps { BeginsWith (kept (setting grammar.now (N.catalogue names.now) (R.meanings rules.now))
-            self.old.node (met_line self.old) (text_of self.new)) self.new.fields }
+            self.old.node (line_before self.old) (text_of self.new)) self.new.fields }
         ensures bell { result
             ≡ (completed (setting grammar.now (N.catalogue names.now) (R.meanings rules.now)) self.old class).bell }
         ensures steps { steps.new ≡ steps.old + cost
             (setting grammar.now (N.catalogue names.now) (R.meanings rules.now))
-            self.old.node (met_line self.old) (text_of self.new) }
+            self.old.node (line_before self.old) (text_of self.new) }
     {
         grammar.has_no_fault();
         self.reopen();
         let change = self.apply_edit(class, key, grammar, names, rules);
         self.truncate(change.front);
         self.reparse(grammar, names, rules, steps);
-        change.rings
+        change.rings_bell
     }
 
     // Keeps the fields before the first that needs more than so many bytes.
     fn truncate(&mut self, size: usize)
-        ensures { self.new ≡ record self.old { fields = needing size self.old.fields } }
+        ensures { self.new ≡ record self.old { fields = decided_within size self.old.fields } }
     {
         self.fields.truncate(size);
     }
@@ -291,31 +295,32 @@ impl Session {
     // Shows the echo of a key.
     fn echo<N: Names, R: Rules, S: Sink>(
         &self,
-        stroke: Keystroke,
+        keystroke: Keystroke,
         grammar: &Grammar,
         names: &N,
         rules: &R,
         out: &mut Writer<'_, S>,
     )
-        requires size { stroke.size ≤ LINE_LIMIT }
+        requires size { keystroke.size ≤ LINE_LIMIT }
         ensures { Writes S.Sink out.old out.new
             (echo_of (setting grammar.now (N.catalogue names.now) (R.meanings rules.now))
-            stroke.class stroke.key stroke.size stroke.joins stroke.restores stroke.rings self.now) }
+            keystroke.class keystroke.key keystroke.size keystroke.joins keystroke.restores
+            keystroke.rings_bell self.now) }
     {
         let line = self.line.bytes();
-        let behind = &line[stroke.size.min(line.len())..];
-        match stroke.class {
-            KeyClass::Text if stroke.size < LINE_LIMIT => out.put(&[screen_byte(stroke.key)]),
+        let after = &line[keystroke.size.min(line.len())..];
+        match keystroke.class {
+            KeyClass::Text if keystroke.size < LINE_LIMIT => out.put(&[screen_byte(keystroke.key)]),
             KeyClass::Rub | KeyClass::Word | KeyClass::Erase => {
-                put_taken(stroke.joins, &self.prompt, stroke.size, line, out)
+                put_taken(keystroke.joins, &self.prompt, keystroke.size, line, out)
             }
             KeyClass::Show => put_again(&self.prompt, line, out),
             KeyClass::Help => {
                 put_help_and_line(grammar, self.ending, &self.prompt, line, names, rules, out)
             }
-            KeyClass::Back if stroke.restores => put_screen_line(line, out),
-            KeyClass::Escape => put_inserted(behind, stroke.rings, out),
-            KeyClass::Part => put_inserted(behind, stroke.rings, out),
+            KeyClass::Back if keystroke.restores => put_screen_line(line, out),
+            KeyClass::Escape => put_inserted(after, keystroke.rings_bell, out),
+            KeyClass::Part => put_inserted(after, keystroke.rings_bell, out),
             KeyClass::Stop => out.put_line(control_c()),
             KeyClass::Join => out.put(end_of_line()),
             KeyClass::End => put_end(self.ending, out),
@@ -335,7 +340,7 @@ impl Session {
         out.put(page.as_slice());
     }
 
-    // What a key of this class has come to.
+    // The outcome of a key of this class.
     fn turn(&self, class: KeyClass) -> Turn
         ensures value { result ≡ turn_of class self.now.ending }
         ensures done { put_of result ≡ Put.Done }

@@ -1,14 +1,14 @@
 // The fields that a session holds.
 ghost use Rattle.std.specs.Prelude.{◌≡◌, ◌-◌, ◌≤◌, ◌<◌, ◌++◌, ◌∷◌, [], IfNone, IfSome, Some, length, slice_get};
-ghost use Rattle.cm_blocks.specs.Kept.{needing};
-ghost use Rattle.cm_blocks.specs.Parse.{node_behind, place_behind};
-ghost use Rattle.cm_state.specs.Stack.{first_needing};
+ghost use Rattle.cm_blocks.specs.KeptParse.{decided_within};
+ghost use Rattle.cm_blocks.specs.Parse.{node_after, place_after};
+ghost use Rattle.cm_state.specs.Stack.{first_decided_within};
 
 use arrayvec::ArrayVec;
 use cm_blocks::{FIELD_LIMIT, Field};
 use std::marker::Model;
 
-// Fields one behind the other, at most 64. Contracts see the list of them.
+// Fields one after the other, at most 64. Contracts see the list of them.
 #[derive(Drop)]
 pub(crate) struct Stack {
     // Each place has a field: an `ArrayVec` wants a value for the places that it does not use.
@@ -58,7 +58,7 @@ impl Stack {
         }
     }
 
-    // Puts one behind the others.
+    // Puts one after the others.
     pub(crate) fn push(&mut self, field: Field)
         requires { length self.old < FIELD_LIMIT }
         ensures { self.new ≡ self.old ++ field ∷ [] }
@@ -68,9 +68,10 @@ impl Stack {
 
     // Keeps those before the first that needs more than so many bytes.
     pub(crate) fn truncate(&mut self, size: usize)
-        ensures { self.new ≡ needing size self.old }
+        ensures { self.new ≡ decided_within size self.old }
     {
-        self.fields.truncate(first_needing(&self.fields, size));
+        self.fields
+            .truncate(first_decided_within(&self.fields, size));
     }
 
     // Keeps none.
@@ -93,8 +94,8 @@ impl Stack {
 
     // The node that follows the last, or the one from which the first is sought.
     #[tactic(auto, using(crate::proofs::Stacks::node_of_last))]
-    pub(crate) fn node_behind(&self, start: u16) -> u16
-        ensures { result ≡ node_behind start self.now }
+    pub(crate) fn node_after(&self, start: u16) -> u16
+        ensures { result ≡ node_after start self.now }
     {
         match self.last() {
             Some(field) => field.next(),
@@ -102,10 +103,10 @@ impl Stack {
         }
     }
 
-    // The place behind the last.
+    // The place after the last.
     #[tactic(auto, using(crate::proofs::Stacks::place_of_last))]
-    pub(crate) fn place_behind(&self) -> usize
-        ensures { result ≡ place_behind 0 self.now }
+    pub(crate) fn place_after(&self) -> usize
+        ensures { result ≡ place_after 0 self.now }
     {
         match self.last() {
             Some(field) => usize::from(field.end()),
@@ -115,8 +116,8 @@ impl Stack {
 }
 
 // The number of the first field that needs more than so many bytes, or how many there are.
-fn first_needing(fields: &[Option<Field>], size: usize) -> usize
-    ensures value { result ≡ first_needing size 0 fields.now }
+fn first_decided_within(fields: &[Option<Field>], size: usize) -> usize
+    ensures value { result ≡ first_decided_within size 0 fields.now }
     ensures within { result ≤ length fields.now }
 {
     for (number, field) in fields.iter().enumerate() {

@@ -1,7 +1,7 @@
-// What a key came to.
+// The outcome of a key.
 use cm_blocks::Fault;
 
-/// What a key came to.
+/// The outcome of a key.
 #[derive(Clone, Copy, Debug, PartialEq, Eq)]
 pub enum Turn {
     /// The line may go on.

@@ -135,6 +135,7 @@ fn tells_what_a_keyword_is_for(rt: HostRuntime) -> Result<(), Fail> {
     tries(&rt, rt.alloc(), Question::Help, cases)
 }
 
+// [question-mark]
 #[test]
 fn tells_why_there_is_nothing_to_come(rt: HostRuntime) -> Result<(), Fail> {
     let cases = "\

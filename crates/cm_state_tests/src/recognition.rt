@@ -27,7 +27,7 @@ pub(crate) fn put_in(
     Ok(format!(in alloc; "{}|{bell}", str::from_utf8(put.bytes.as_slice())?)?)
 }
 
-// Behind a keyword stands the guide word of the node that it leads to, or a space alone. A short form stands for
+// After a keyword stands the guide word of the node that it leads to, or a space alone. A short form stands for
 // another entry. What several share goes in, and it rings, as where an entry cannot be recognised. A line may be at a
 // place further on, or at a node that is not there.
 #[test]
@@ -48,7 +48,7 @@ fn keywords_go_on(rt: HostRuntime) -> Result<(), Fail> {
     tries(&rt, rt.alloc(), Question::Completion(Mode::Escape), cases)
 }
 
-// The value of a switch follows its colon. The block behind it is asked where it cannot go on, and alone where the line
+// The value of a switch follows its colon. The block after it is asked where it cannot go on, and alone where the line
 // waits at it.
 #[test]
 fn switches_go_on(rt: HostRuntime) -> Result<(), Fail> {
@@ -151,7 +151,7 @@ fn a_part_is_asked_of_no_keyword_and_no_date(rt: HostRuntime) -> Result<(), Fail
 }
 
 // One name goes on with its one type and its highest generation. It rings at several names that share nothing more, at
-// none, at one that is marked deleted, and at a device or a directory that is none. Behind a device or a directory
+// none, at one that is marked deleted, and at a device or a directory that is none. After a device or a directory
 // nothing has to be typed.
 #[test]
 fn names_go_on(rt: HostRuntime) -> Result<(), Fail> {
@@ -210,7 +210,7 @@ fn flags_say_which_files_go_on(rt: HostRuntime) -> Result<(), Fail> {
     tries(&rt, rt.alloc(), Question::Completion(Mode::Escape), cases)
 }
 
-// Node 14 reads a directory that may be new, of which nothing is known. Behind a directory a file goes on.
+// Node 14 reads a directory that may be new, of which nothing is known. After a directory a file goes on.
 #[test]
 fn directories_go_on(rt: HostRuntime) -> Result<(), Fail> {
     let cases = "\
@@ -242,6 +242,7 @@ fn users_go_on(rt: HostRuntime) -> Result<(), Fail> {
     tries(&rt, rt.alloc(), Question::Completion(Mode::Escape), cases)
 }
 
+// [completion]
 // A generation and a directory are whole, for control-F too. It asks neither users nor files that are written.
 #[test]
 fn one_part_goes_on(rt: HostRuntime) -> Result<(), Fail> {

@@ -25,7 +25,7 @@ keyword_is_ascii [] all i = omega arith
 keyword_is_ascii (byte ∷ text) all zero = keyword_byte_is_ascii byte (and_parts _ _ all).0
 keyword_is_ascii (byte ∷ text) all (suc i) = keyword_is_ascii text (and_parts _ _ all).1 i
 
--- what stands behind an atom in the entries
+-- what stands after an atom in the entries
 rests_are_ascii : (place : ℕ) (entries : List Entry) (atom : List ℕ) → Ascends entries
     → AllByRecursion IsAscii (rests_from place entries atom)
 rests_are_ascii place [] atom up = tt
@@ -34,12 +34,12 @@ rests_are_ascii place (first ∷ more) atom up =
     (IsAscii-drop first.text (length atom) (keyword_is_ascii first.text (keyword_bytes first.text up.0)))
     (rests_are_ascii (place + 1) more atom up.2)
   where
-    behind : ℕ × Entry → List ℕ
-    behind e = drop (length atom) e.1.text
+    after : ℕ × Entry → List ℕ
+    after e = drop (length atom) e.1.text
 
     by : (test : Bool) → IsAscii (drop (length atom) first.text) → AllByRecursion IsAscii (rests_from (place + 1) more atom)
         → AllByRecursion IsAscii
-        (map behind (cond test ((place, first) ∷ candidates_from (place + 1) more atom) (candidates_from (place + 1) more atom)))
+        (map after (cond test ((place, first) ∷ candidates_from (place + 1) more atom) (candidates_from (place + 1) more atom)))
     by true here later = (here, later)
     by false here later = later
 

@@ -100,11 +100,11 @@ ascends_dropped (suc size) [] up = tt
 ascends_dropped (suc size) (first ∷ more) up = ascends_dropped size more up.2
 
 -- the entries from the point on that the search finds
-pub from_is : (atom : List ℕ) (entries behind : List Entry) (start : ℕ) → Ascends entries → behind ≡ drop start entries
+pub from_is : (atom : List ℕ) (entries after : List Entry) (start : ℕ) → Ascends entries → after ≡ drop start entries
     → start ≤ length entries
     → (IsPartitionedBy (λ entry. is_below entry.text atom) entries → IsPoint (λ entry. is_below entry.text atom) entries start)
-    → IsFrom atom entries start behind
-from_is atom entries behind start up rest most finds =
+    → IsFrom atom entries start after
+from_is atom entries after start up rest most finds =
     let point = finds (parted atom entries (places_rise atom entries up)) in
     subst (IsFrom atom entries start) (sym rest) record {
       before = take start entries;

@@ -11,9 +11,9 @@ use Rattle.std.proofs.lemmas.Bool.Decides.{nat_tests}
 use Rattle.std.proofs.lemmas.Cmp.{nat_list_cmp_total}
 use Rattle.std.proofs.lemmas.List.{drop_more}
 use Rattle.cm_lists.proofs.Orders.{not_eq_by_index}
-use Rattle.cm_lists.proofs.Quantifiers.{AllByRecursion_then, any_behind, any_first}
+use Rattle.cm_lists.proofs.Quantifiers.{AllByRecursion_then, any_after, any_first}
 use Rattle.cm_text.specs.Case.{begins_with, equals}
-use Rattle.cm_tables.specs.Listed.{is_listed, is_plain}
+use Rattle.cm_tables.specs.Listing.{is_listed, is_plain}
 use Rattle.cm_tables.specs.Look.{abbreviated, by_equal, candidates, equal_entries, exact, has_text, is_recognised, look}
 use Rattle.cm_tables.specs.Order.{is_keyword, is_keyword_byte, table_fault, texts_fault}
 use Rattle.cm_tables.specs.Search.{AreNotBelow, Ascends, IsFrom, candidates_from, is_below, is_first, place, wholes}
@@ -47,6 +47,7 @@ ascends_from fault before (first ∷ more) none =
       ascends_from (fault + 1) (Some first.text) more both.1,
     )
 
+-- [look-up-cost]
 pub ascends_of : (table : List Entry) → table_fault table ≡ None → Ascends table
 ascends_of table none = ascends_from 0 None table (no-texts_fault table none)
 
@@ -55,68 +56,68 @@ abbrev passing : (Entry → Bool) → ℕ → List Entry → List (ℕ × Entry)
 passing test place entries = filter (λ (e : ℕ × Entry). test e.1) (enumerate_from place entries)
 
 -- those that do not pass may be left out before them
-passing_behind : (test : Entry → Bool) (place : ℕ) (before entries : List Entry)
+passing_after : (test : Entry → Bool) (place : ℕ) (before entries : List Entry)
     → AllByRecursion (λ entry. test entry ≡ false) before
     → passing test place (before ++ entries) ≡ passing test (place + length before) entries
-passing_behind test place [] entries none = ap (λ n. passing test n entries) (omega arith)
-passing_behind test place (first ∷ before) entries none =
-    rw none.0 (passing_behind test (place + 1) before entries none.1 ∙ ap (λ n. passing test n entries) (omega arith))
+passing_after test place [] entries none = ap (λ n. passing test n entries) (omega arith)
+passing_after test place (first ∷ before) entries none =
+    rw none.0 (passing_after test (place + 1) before entries none.1 ∙ ap (λ n. passing test n entries) (omega arith))
 
--- and behind them
+-- and after them
 passing_none : (test : Entry → Bool) (place : ℕ) (entries : List Entry)
     → AllByRecursion (λ entry. test entry ≡ false) entries → passing test place entries ≡ []
 passing_none test place [] none = refl
 passing_none test place (first ∷ more) none = rw none.0 (passing_none test (place + 1) more none.1)
 
 -- of all entries those pass that pass from the first on that is found
-passing_in : (test : Entry → Bool) (atom : List ℕ) (entries : List Entry) (start : ℕ) (behind : List Entry)
-    → ((entry : Entry) → begins_with entry.text atom ≡ false → test entry ≡ false) → IsFrom atom entries start behind
-    → (place : ℕ) → passing test (place + start) behind ≡ passing test place entries
-passing_in test atom entries start behind fails is place =
+passing_in : (test : Entry → Bool) (atom : List ℕ) (entries : List Entry) (start : ℕ) (after : List Entry)
+    → ((entry : Entry) → begins_with entry.text atom ≡ false → test entry ≡ false) → IsFrom atom entries start after
+    → (place : ℕ) → passing test (place + start) after ≡ passing test place entries
+passing_in test atom entries start after fails is place =
     sym
     (ap (passing test place) is.parts
-    ∙ passing_behind test place is.before behind (AllByRecursion_then _ _ fails _ is.none_before)
-    ∙ ap (λ n. passing test (place + n) behind) (sym is.at))
+    ∙ passing_after test place is.before after (AllByRecursion_then _ _ fails _ is.none_before)
+    ∙ ap (λ n. passing test (place + n) after) (sym is.at))
 
 -- so those that the atom may abbreviate
-pub candidates_in : (atom : List ℕ) (entries : List Entry) (start : ℕ) (behind : List Entry)
-    → IsFrom atom entries start behind → candidates_from start behind atom ≡ candidates entries atom
-candidates_in atom entries start behind is =
-    ap (λ n. candidates_from n behind atom) (omega arith)
-    ∙ passing_in (λ entry. is_recognised entry.flag && begins_with entry.text atom) atom entries start behind
+pub candidates_in : (atom : List ℕ) (entries : List Entry) (start : ℕ) (after : List Entry)
+    → IsFrom atom entries start after → candidates_from start after atom ≡ candidates entries atom
+candidates_in atom entries start after is =
+    ap (λ n. candidates_from n after atom) (omega arith)
+    ∙ passing_in (λ entry. is_recognised entry.flag && begins_with entry.text atom) atom entries start after
     (λ entry fails. and_right (is_recognised entry.flag) _ fails) is 0
 
 -- and those that a list shows
-pub listed_in : (atom : List ℕ) (entries : List Entry) (start : ℕ) (behind : List Entry) (place : ℕ)
-    → IsFrom atom entries start behind → listed_of (place + start) behind atom ≡ listed_of place entries atom
-listed_in atom entries start behind place is =
-    passing_in (is_listed atom) atom entries start behind (λ entry fails. and_right (is_plain entry.flag) _ fails) is place
+pub listed_in : (atom : List ℕ) (entries : List Entry) (start : ℕ) (after : List Entry) (place : ℕ)
+    → IsFrom atom entries start after → listed_of (place + start) after atom ≡ listed_of place entries atom
+listed_in atom entries start after place is =
+    passing_in (is_listed atom) atom entries start after (λ entry fails. and_right (is_plain entry.flag) _ fails) is place
 
--- what stands behind the atom is the same wherever the entries stand
+-- what stands after the atom is the same wherever the entries stand
 rests_anywhere : (place other : ℕ) (entries : List Entry) (atom : List ℕ)
     → rests_from place entries atom ≡ rests_from other entries atom
 rests_anywhere place other [] atom = refl
 rests_anywhere place other (first ∷ more) atom =
     by (is_recognised first.flag && begins_with first.text atom) (rests_anywhere (place + 1) (other + 1) more atom)
   where
-    behind : ℕ × Entry → List ℕ
-    behind e = drop (length atom) e.1.text
+    after : ℕ × Entry → List ℕ
+    after e = drop (length atom) e.1.text
 
     with_first : ℕ → Bool → List (ℕ × Entry)
     with_first n test = cond test ((n, first) ∷ candidates_from (n + 1) more atom) (candidates_from (n + 1) more atom)
 
     by : (test : Bool) → rests_from (place + 1) more atom ≡ rests_from (other + 1) more atom
-        → map behind (with_first place test) ≡ map behind (with_first other test)
-    by true later = ap (λ rest. behind (0, first) ∷ rest) later
+        → map after (with_first place test) ≡ map after (with_first other test)
+    by true later = ap (λ rest. after (0, first) ∷ rest) later
     by false later = later
 
-pub rests_in : (atom : List ℕ) (entries : List Entry) (start : ℕ) (behind : List Entry)
-    → IsFrom atom entries start behind → rests_from 0 behind atom ≡ rests_from 0 entries atom
-rests_in atom entries start behind is =
-    rests_anywhere 0 start behind atom
-    ∙ ap (map (λ (e : ℕ × Entry). drop (length atom) e.1.text)) (candidates_in atom entries start behind is)
+pub rests_in : (atom : List ℕ) (entries : List Entry) (start : ℕ) (after : List Entry)
+    → IsFrom atom entries start after → rests_from 0 after atom ≡ rests_from 0 entries atom
+rests_in atom entries start after is =
+    rests_anywhere 0 start after atom
+    ∙ ap (map (λ (e : ℕ × Entry). drop (length atom) e.1.text)) (candidates_in atom entries start after is)
 
--- behind an entry that does not begin with the atom none does
+-- after an entry that does not begin with the atom none does
 none_later : (text atom : List ℕ) (more : List Entry) → is_keyword text ≡ true → is_below text atom ≡ false
     → begins_with text atom ≡ false → AllByRecursion (λ (later : Entry). slice_cmp nat_cmp text later.text ≡ Less) more
     → Ascends more → AllByRecursion (λ (later : Entry). begins_with later.text atom ≡ false) more
@@ -221,9 +222,9 @@ unequal text atom fails = by (equals text atom) refl
     by false equal = refl
 
 -- so the first of those that are found is the atom, or no entry is
-none_behind : (atom : List ℕ) (first : Entry) (more : List Entry) → Ascends (first ∷ more)
+none_after : (atom : List ℕ) (first : Entry) (more : List Entry) → Ascends (first ∷ more)
     → is_below first.text atom ≡ false → AllByRecursion (λ (later : Entry). equals later.text atom ≡ false) more
-none_behind atom first more up below = by (begins_with first.text atom) refl
+none_after atom first more up below = by (begins_with first.text atom) refl
   where
     by : (test : Bool) → begins_with first.text atom ≡ test
         → AllByRecursion (λ (later : Entry). equals later.text atom ≡ false) more
@@ -232,17 +233,17 @@ none_behind atom first more up below = by (begins_with first.text atom) refl
         AllByRecursion_then _ _ (λ later fails. unequal later.text atom fails) more
         (none_later first.text atom more up.0 below fails up.1 up.2)
 
-equal_in : (atom : List ℕ) (entries : List Entry) (start : ℕ) (behind : List Entry) → IsFrom atom entries start behind
-    → passing (λ entry. equals entry.text atom) start behind ≡ equal_entries entries atom
-equal_in atom entries start behind is =
-    ap (λ n. passing (λ entry. equals entry.text atom) n behind) (omega arith)
-    ∙ passing_in (λ entry. equals entry.text atom) atom entries start behind
+equal_in : (atom : List ℕ) (entries : List Entry) (start : ℕ) (after : List Entry) → IsFrom atom entries start after
+    → passing (λ entry. equals entry.text atom) start after ≡ equal_entries entries atom
+equal_in atom entries start after is =
+    ap (λ n. passing (λ entry. equals entry.text atom) n after) (omega arith)
+    ∙ passing_in (λ entry. equals entry.text atom) atom entries start after
     (λ entry fails. unequal entry.text atom fails) is 0
 
 -- an entry whose text is the atom gives what it does
-pub exact_is_look : (atom : List ℕ) (entries : List Entry) (start : ℕ) (behind : List Entry) (d : Entry)
-    → IsFrom atom entries start behind → is_first behind atom ≡ true
-    → exact start (get_or behind 0 d).flag ≡ look entries atom
+pub exact_is_look : (atom : List ℕ) (entries : List Entry) (start : ℕ) (after : List Entry) (d : Entry)
+    → IsFrom atom entries start after → is_first after atom ≡ true
+    → exact start (get_or after 0 d).flag ≡ look entries atom
 unfolding look
 exact_is_look atom entries start [] d is same = cc
 exact_is_look atom entries start (first ∷ more) d is same =
@@ -252,33 +253,33 @@ exact_is_look atom entries start (first ∷ more) d is same =
     ap (λ equals. by_equal equals (candidates entries atom)) (sym found ∙ all)
 
 -- with none, those count that the atom may abbreviate
-pub abbreviated_is_look : (atom : List ℕ) (entries : List Entry) (start : ℕ) (behind : List Entry)
-    → IsFrom atom entries start behind → is_first behind atom ≡ false
-    → abbreviated (candidates_from start behind atom) ≡ look entries atom
+pub abbreviated_is_look : (atom : List ℕ) (entries : List Entry) (start : ℕ) (after : List Entry)
+    → IsFrom atom entries start after → is_first after atom ≡ false
+    → abbreviated (candidates_from start after atom) ≡ look entries atom
 unfolding look
-abbreviated_is_look atom entries start behind is other =
-    ap abbreviated (candidates_in atom entries start behind is)
-    ∙ ap (λ equals. by_equal equals (candidates entries atom)) (sym (none behind is other) ∙ equal_in atom entries start behind is)
+abbreviated_is_look atom entries start after is other =
+    ap abbreviated (candidates_in atom entries start after is)
+    ∙ ap (λ equals. by_equal equals (candidates entries atom)) (sym (none after is other) ∙ equal_in atom entries start after is)
   where
-    none : (behind : List Entry) → IsFrom atom entries start behind → is_first behind atom ≡ false
-        → passing (λ entry. equals entry.text atom) start behind ≡ []
+    none : (after : List Entry) → IsFrom atom entries start after → is_first after atom ≡ false
+        → passing (λ entry. equals entry.text atom) start after ≡ []
     none [] is other = refl
     none (first ∷ more) is other =
         passing_none (λ entry. equals entry.text atom) start (first ∷ more)
-        (other, none_behind atom first more is.ascends is.above.0)
+        (other, none_after atom first more is.ascends is.above.0)
 
-pub has_text_first : (atom : List ℕ) (entries : List Entry) (start : ℕ) (behind : List Entry)
-    → IsFrom atom entries start behind → is_first behind atom ≡ has_text entries atom
-has_text_first atom entries start behind is =
+pub has_text_first : (atom : List ℕ) (entries : List Entry) (start : ℕ) (after : List Entry)
+    → IsFrom atom entries start after → is_first after atom ≡ has_text entries atom
+has_text_first atom entries start after is =
     sym
     (ap (list_any (λ entry. equals entry.text atom)) is.parts
-    ∙ any_behind _ is.before behind (AllByRecursion_then _ _ (λ entry fails. unequal entry.text atom fails) _ is.none_before)
-    ∙ by behind is.ascends is.above)
+    ∙ any_after _ is.before after (AllByRecursion_then _ _ (λ entry fails. unequal entry.text atom fails) _ is.none_before)
+    ∙ by after is.ascends is.above)
   where
-    by : (behind : List Entry) → Ascends behind → AreNotBelow atom behind
-        → list_any (λ (entry : Entry). equals entry.text atom) behind ≡ is_first behind atom
+    by : (after : List Entry) → Ascends after → AreNotBelow atom after
+        → list_any (λ (entry : Entry). equals entry.text atom) after ≡ is_first after atom
     by [] up above = refl
-    by (first ∷ more) up above = any_first _ first more (none_behind atom first more up above.0)
+    by (first ∷ more) up above = any_first _ first more (none_after atom first more up above.0)
 
 -- how many entries a walk reads that has found one so far or none, and comes to these
 abbrev pub left : Option ℕ → List Entry → List ℕ → ℕ

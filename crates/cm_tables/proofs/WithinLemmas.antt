@@ -88,19 +88,19 @@ by_equal-within : (equals abbreviations : List (ℕ × Entry)) (count : ℕ)
 by_equal-within [] abbreviations count all others = abbreviated-within abbreviations count others
 by_equal-within (e ∷ more) abbreviations count all others = exact-within e.0 e.1.flag count all.0 all.1.0
 
--- a list with no fault has none at its texts, and none behind them
+-- a list with no fault has none at its texts, and none after them
 pub no-faults : (table : List Entry) → table_fault table ≡ None
     → (texts_fault 0 None table ≡ None) × (first_fault (targets_fault table 0 table) (helps_fault 0 table) ≡ None)
 unfolding table_fault
 no-faults table e = by (ltb ENTRY_LIMIT (length table)) e
   where
-    behind : Option TableFault
-    behind = first_fault (targets_fault table 0 table) (helps_fault 0 table)
+    after : Option TableFault
+    after = first_fault (targets_fault table 0 table) (helps_fault 0 table)
 
-    by : (b : Bool) → cond b (Some TooMany) (first_fault (texts_fault 0 None table) behind) ≡ None
-        → (texts_fault 0 None table ≡ None) × (behind ≡ None)
+    by : (b : Bool) → cond b (Some TooMany) (first_fault (texts_fault 0 None table) after) ≡ None
+        → (texts_fault 0 None table ≡ None) × (after ≡ None)
     by true e = cc
-    by false e = both-none (texts_fault 0 None table) behind e
+    by false e = both-none (texts_fault 0 None table) after e
 
 pub no-targets_fault : (table : List Entry) → table_fault table ≡ None → targets_fault table 0 table ≡ None
 no-targets_fault table e = (both-none (targets_fault table 0 table) (helps_fault 0 table) (no-faults table e).1).0

@@ -43,6 +43,7 @@ abbrev pub by_equal : List (ℕ × Entry) → List (ℕ × Entry) → Look
 by_equal [] abbreviations = abbreviated abbreviations
 by_equal (e ∷ more) abbreviations = exact e.0 e.1.flag
 
+-- [abbreviation]
 unfoldable pub look : List Entry → List ℕ → Look
 look table atom = by_equal (equal_entries table atom) (candidates table atom)
 

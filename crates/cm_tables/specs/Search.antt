@@ -12,14 +12,14 @@ use Rattle.cm_tables.specs.Look.{is_recognised}
 use Rattle.cm_tables.specs.Order.{is_keyword}
 use Rattle.cm_tables.specs.declared.entry.Entry.{Entry}
 
--- whether a text stands below those that begin with the atom, among them or above them
+-- [look-up-cost] whether a text stands below those that begin with the atom, among them or above them
 abbrev pub place : List ℕ → List ℕ → Ordering
 place text [] = Equal
 place [] (next ∷ atom) = Less
 place (byte ∷ text) (next ∷ atom) =
     ordering_then (nat_cmp (to_ascii_lowercase byte) (to_ascii_lowercase next)) (place text atom)
 
--- keywords, each below all those behind it
+-- keywords, each below all those after it
 abbrev pub Ascends : List Entry → Type 0
 Ascends [] = Unit {0}
 Ascends (entry ∷ more) =
@@ -36,13 +36,13 @@ AreNotBelow atom entries = AllByRecursion (λ entry. is_below entry.text atom �
 
 -- the entries from a position on, which do not stand below those that begin with the atom, where none before them
 -- begins with it
-pub record IsFrom (atom : List ℕ) (entries : List Entry) (start : ℕ) (behind : List Entry) : Type 0 where
+pub record IsFrom (atom : List ℕ) (entries : List Entry) (start : ℕ) (after : List Entry) : Type 0 where
   pub before : List Entry
-  pub parts : entries ≡ before ++ behind
+  pub parts : entries ≡ before ++ after
   pub at : start ≡ length before
   pub none_before : AllByRecursion (λ entry. begins_with entry.text atom ≡ false) before
-  pub above : AreNotBelow atom behind
-  pub ascends : Ascends behind
+  pub above : AreNotBelow atom after
+  pub ascends : Ascends after
 
 -- of entries from a position on, those that the atom may abbreviate
 abbrev pub candidates_from : ℕ → List Entry → List ℕ → List (ℕ × Entry)

@@ -40,7 +40,7 @@ pub struct Entry {
     pub code: u16,
     /// The node of the grammar that follows it.
     pub next: u16,
-    /// What `?` says of it behind its text, where it says something.
+    /// What `?` says of it after its text, where it says something.
     pub help: Option<Name>,
 }
 
@@ -78,7 +78,7 @@ impl Entry {
         }
     }
 
-    /// The same entry, of which `?` says this behind its text.
+    /// The same entry, of which `?` says this after its text.
     pub fn with_help(self, help: &str) -> Entry
         requires { length help.now ≤ NAME_LIMIT }
         ensures { result ≡ with_help help.now self }

@@ -9,7 +9,7 @@ ghost use Rattle.cm_tables.specs.declared.entry.Entry.{Entry};
 ghost use Rattle.cm_tables.specs.declared.fault.TheConstants.{ENTRY_LIMIT};
 ghost use Rattle.cm_tables.specs.declared.table.Look.TheVariants as looks;
 
-/// Behind an atom all entries that it may abbreviate go on with their common text, and with no longer one. With
+/// After an atom all entries that it may abbreviate go on with their common text, and with no longer one. With
 /// no such entry that text is empty.
 pub fn the_common_text_is_the_longest()
     ensures shared { (table : List Entry) → (atom : List ℕ) → AllBeginWith (rests table atom) (common table atom) }

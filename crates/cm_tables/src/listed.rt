@@ -1,6 +1,6 @@
 // The entries of a table that a list shows.
 ghost use Rattle.std.specs.Prelude.{◌≡◌, ◌<◌, ◌≤◌, length, IfSome};
-ghost use Rattle.cm_tables.specs.Listed.{is_plain, next_listed};
+ghost use Rattle.cm_tables.specs.Listing.{is_plain, next_listed};
 ghost use Rattle.cm_tables.specs.Search.{Ascends};
 
 use crate::fault::ENTRY_LIMIT;
@@ -27,9 +27,9 @@ pub(crate) fn next_listed(entries: &[Entry], from: u16, atom: &[u8]) -> Option<u
     if start > entries.len() {
         return None;
     }
-    let (_, behind) = entries.split_at(start);
+    let (_, after) = entries.split_at(start);
     let mut probes = 0;
-    let (first, rest) = from_first(behind, atom, &mut probes);
+    let (first, rest) = from_first(after, atom, &mut probes);
     for (offset, entry) in rest.iter().enumerate() {
         if !begins_with(entry.text.as_bytes(), atom) {
             return None;

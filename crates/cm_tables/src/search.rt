@@ -73,10 +73,10 @@ pub(crate) fn look(entries: &[Entry], atom: &[u8], probes: &mut u64, reads: &mut
     ensures few { 2 ^ (probes.new - probes.old) ≤ 2 * length entries.now + 1 }
     ensures near { reads.new ≤ reads.old + (length (wholes entries.now atom.now) + 3) }
 {
-    let (start, behind) = from_first(entries, atom, probes);
+    let (start, after) = from_first(entries, atom, probes);
     *reads = reads.saturating_add(1);
-    if is_first(behind, atom) {
-        return exact(start as u16, behind[0].flag);
+    if is_first(after, atom) {
+        return exact(start as u16, after[0].flag);
     }
-    abbreviated(start, behind, atom, reads)
+    abbreviated(start, after, atom, reads)
 }

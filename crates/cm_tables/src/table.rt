@@ -1,7 +1,7 @@
 // Keyword tables.
 ghost use Rattle.std.specs.Prelude.{◌≡◌, ◌+◌, ◌-◌, ◌*◌, ◌^◌, ◌<◌, ◌≤◌, List, length, Some, None, IfSome, MatchResult, slice_get, vec_len};
 ghost use Rattle.cm_tables.specs.Common.{common};
-ghost use Rattle.cm_tables.specs.Listed.{next_listed};
+ghost use Rattle.cm_tables.specs.Listing.{next_listed};
 ghost use Rattle.cm_tables.specs.Look.{IsWithin, has_text, look};
 ghost use Rattle.cm_tables.specs.Order.{table_fault};
 ghost use Rattle.cm_tables.specs.Search.{wholes};
@@ -122,6 +122,7 @@ impl Table {
 
     /// What the table has for an atom.
     pub fn look(&self, atom: &[u8]) -> Look
+        // [abbreviation]
         ensures value { result ≡ look self.now atom.now }
         // A position that it gives is one of the table.
         ensures within { IsWithin result (length self.now) }
@@ -138,7 +139,7 @@ impl Table {
     pub fn look_counted(&self, atom: &[u8], probes: &mut u64, reads: &mut u64) -> Look
         ensures value { result ≡ look self.now atom.now }
         ensures within { IsWithin result (length self.now) }
-        // As many as the number of entries has binary digits.
+        // [look-up-cost] As many as the number of entries has binary digits.
         ensures few { 2 ^ (probes.new - probes.old) ≤ 2 * length self.now + 1 }
         // At most three more than there are entries that begin with the atom and may not be abbreviated.
         ensures near { reads.new ≤ reads.old + (length (wholes self.now atom.now) + 3) }
@@ -155,7 +156,7 @@ impl Table {
         search::has_text(&self.entries, atom)
     }
 
-    /// The longest text with which all entries go on behind the atom that it may abbreviate, so that it can be
+    /// The longest text with which all entries go on after the atom that it may abbreviate, so that it can be
     /// completed as far as it is certain (COMND's recognition). It is empty where there is no such entry.
     #[tactic(auto, using(crate::proofs::StartLaws::ascends_of))]
     pub fn common(&self, atom: &[u8]) -> Name
@@ -165,7 +166,7 @@ impl Table {
         common::common(&self.entries, atom)
     }
 
-    /// The position of the first entry at or behind a position that a list shows where the atom was typed, as `?` wants
+    /// The position of the first entry at or after a position that a list shows where the atom was typed, as `?` wants
     /// it (TBLUK): a Plain entry that begins with the atom, with no regard to the case of letters. None where there is
     /// no more such entry, as from a position past the end.
     #[tactic(auto, using(crate::proofs::StartLaws::ascends_of))]

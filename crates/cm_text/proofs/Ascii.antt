@@ -11,7 +11,7 @@ line_byte_is_ascii : (byte : ℕ) → is_line_byte byte ≡ true → byte < 128
 unfolding is_line_byte is_text
 line_byte_is_ascii byte is = grind (arith, nat_tests)
 
--- the bytes of a line, and the CR behind them
+-- the bytes of a line, and the CR after them
 finished_ascii : (bytes : List ℕ) → AllByRecursion (λ byte. is_line_byte byte ≡ true) bytes → IsAscii (finished bytes)
 finished_ascii [] is zero = omega arith
 finished_ascii [] is (suc i) = omega arith

@@ -2,5 +2,6 @@ pub mod BeginLaws
 pub mod Bytes
 pub mod Case
 pub mod Lines
-pub mod Shown
+pub mod Padding
+pub mod ScreenBytes
 pub mod Text

@@ -10,21 +10,21 @@ ends_in_return line = option_map_or (λ (byte : ℕ). byte == 13) (slice_get lin
 abbrev pub without_return : List ℕ → List ℕ
 without_return line = if ends_in_return line then take (length line - 1) line else line
 
--- what stands behind the last line feed is a line too, where anything does
+-- what stands after the last line feed is a line too, where anything does
 abbrev pub last_line : List ℕ → List (List ℕ)
 last_line [] = []
 last_line (byte ∷ line) = (byte ∷ line) ∷ []
 
 -- the lines of these bytes, of which the first is begun: a line feed ends a line, and one carriage return before it is
 -- none of the line's
-abbrev pub lines_behind : List ℕ → List ℕ → List (List ℕ)
-lines_behind begun [] = last_line begun
-lines_behind begun (byte ∷ bytes) =
-    if byte == 10 then without_return begun ∷ lines_behind [] bytes else lines_behind (begun ++ byte ∷ []) bytes
+abbrev pub lines_after : List ℕ → List ℕ → List (List ℕ)
+lines_after begun [] = last_line begun
+lines_after begun (byte ∷ bytes) =
+    if byte == 10 then without_return begun ∷ lines_after [] bytes else lines_after (begun ++ byte ∷ []) bytes
 
 -- the lines of a text
 unfoldable pub lines : List ℕ → List (List ℕ)
-lines bytes = lines_behind [] bytes
+lines bytes = lines_after [] bytes
 
 -- where the first of the lines of some bytes ends, and where the next begins
 pub record BeginsLine (bytes : List ℕ) (first : LineEnd) : Type 0 where

@@ -18,7 +18,7 @@ pub fn decimal_digits(number: u64) -> ArrayString<DIGIT_LIMIT>
     digits
 }
 
-// Puts the digits of a number behind others, where there is room for just these.
+// Puts the digits of a number after others, where there is room for just these.
 #[tactic(auto, using(std::proofs::lemmas::Fmt::decimal_digit, std::proofs::lemmas::Fmt::decimal_step, cm_lists::proofs::Digits::length_decimal_step))]
 fn push_decimal(digits: &mut ArrayString<DIGIT_LIMIT>, number: u64)
     requires { length digits.old.bytes + length (decimal number) ≤ DIGIT_LIMIT }
@@ -32,7 +32,7 @@ fn push_decimal(digits: &mut ArrayString<DIGIT_LIMIT>, number: u64)
     }
 }
 
-// Puts one digit behind others.
+// Puts one digit after others.
 fn push_digit(digits: &mut ArrayString<DIGIT_LIMIT>, digit: u64)
     requires room { length digits.old.bytes < DIGIT_LIMIT }
     requires digit { digit < 10 }

@@ -18,7 +18,7 @@ pub use bytes::{is_blank, is_line_byte, is_name, is_shown, is_text, is_word};
 pub use case::{begins_with, equals};
 pub use digits::{DIGIT_LIMIT, decimal_digits};
 pub use lines::{LineEnd, first_line};
-pub use name::{NAME_LIMIT, Name};
+pub use name::{NAME_LIMIT, Name, pad};
 pub use search::seek;
 pub use shown::{
     bell, control_c, end_of_line, join_shown, printing_byte, question, rubout, screen_byte,

@@ -5,14 +5,14 @@ ghost use Rattle.cm_text.specs.Lines.{BeginsLines, without_return};
 /// Where a line ends, and where the next one begins: two places in the same bytes.
 #[derive(Clone, Copy, Debug)]
 pub struct LineEnd {
-    /// The place behind the last byte of the line.
+    /// The place after the last byte of the line.
     pub end: usize,
-    /// The place behind what ended the line.
+    /// The place after what ended the line.
     pub next: usize,
 }
 
 /// The first line of some bytes, or none where there are no bytes. A line feed ends a line, and one carriage return
-/// before it is none of the line's; what stands behind the last line feed is a line too.
+/// before it is none of the line's; what stands after the last line feed is a line too.
 pub fn first_line(bytes: &[u8]) -> Option<LineEnd>
     ensures { BeginsLines bytes.now result }
 {

@@ -8,6 +8,7 @@ ghost use Rattle.std.specs.Hash as fed;
 ghost use Rattle.std.specs.Ordering.{nat_cmp};
 ghost use Rattle.std.specs.Str.{bytes_eq};
 ghost use Rattle.std.proofs.Common.{rules};
+ghost use Rattle.cm_text.specs.Padding.{padded};
 
 use arrayvec::ArrayString;
 use std::cmp::Ordering;
@@ -40,7 +41,7 @@ impl Name {
         Name { text: name }
     }
 
-    /// Puts an ASCII byte behind the name. False where the name has 39 bytes, which then stays as it was.
+    /// Puts an ASCII byte after the name. False where the name has 39 bytes, which then stays as it was.
     pub fn push(&mut self, byte: u8) -> bool
         requires { byte < 128 }
         ensures fits { IsTrue result ↔ (length self.old < NAME_LIMIT) }
@@ -65,6 +66,16 @@ impl Name {
     {
         self.text.as_str()
     }
+}
+
+/// The bytes of a text of at most 39 bytes, with zeros after them: so a value that is copied holds a short text.
+pub fn pad(text: &[u8]) -> [u8; NAME_LIMIT]
+    requires { length text.now ≤ NAME_LIMIT }
+    ensures { result ≡ padded text.now }
+{
+    let mut bytes = [0; NAME_LIMIT];
+    bytes[..text.len()].copy_from_slice(text);
+    bytes
 }
 
 // Names are compared by their bytes.

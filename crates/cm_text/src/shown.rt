@@ -1,9 +1,9 @@
 // What a screen is given.
 ghost use Rattle.std.specs.Prelude.{◌≡◌};
-ghost use Rattle.cm_text.specs.Shown.{bell, control_c, end_of_line, join_shown, printing_byte, question, rubout, screen_byte};
+ghost use Rattle.cm_text.specs.ScreenBytes.{bell, control_c, end_of_line, join_shown, printing_byte, question, rubout, screen_byte};
 
 /// What ends a line on the screen: carriage return and line feed.
-#[tactic(auto, unfolding(crate::specs::Shown::end_of_line))]
+#[tactic(auto, unfolding(crate::specs::ScreenBytes::end_of_line))]
 pub fn end_of_line() -> &'static [u8]
     ensures { result.now ≡ end_of_line }
 {
@@ -11,7 +11,7 @@ pub fn end_of_line() -> &'static [u8]
 }
 
 /// What answers a key that does nothing.
-#[tactic(auto, unfolding(crate::specs::Shown::bell))]
+#[tactic(auto, unfolding(crate::specs::ScreenBytes::bell))]
 pub fn bell() -> &'static [u8]
     ensures { result.now ≡ bell }
 {
@@ -19,7 +19,7 @@ pub fn bell() -> &'static [u8]
 }
 
 /// What takes the last byte from the screen: back, a space over it, and back again.
-#[tactic(auto, unfolding(crate::specs::Shown::rubout))]
+#[tactic(auto, unfolding(crate::specs::ScreenBytes::rubout))]
 pub fn rubout() -> &'static [u8]
     ensures { result.now ≡ rubout }
 {
@@ -27,7 +27,7 @@ pub fn rubout() -> &'static [u8]
 }
 
 /// What stands before the reason of a refusal.
-#[tactic(auto, unfolding(crate::specs::Shown::question))]
+#[tactic(auto, unfolding(crate::specs::ScreenBytes::question))]
 pub fn question() -> &'static [u8]
     ensures { result.now ≡ question }
 {
@@ -35,7 +35,7 @@ pub fn question() -> &'static [u8]
 }
 
 /// How control-C is shown.
-#[tactic(auto, unfolding(crate::specs::Shown::control_c))]
+#[tactic(auto, unfolding(crate::specs::ScreenBytes::control_c))]
 pub fn control_c() -> &'static [u8]
     ensures { result.now ≡ control_c }
 {
@@ -43,7 +43,7 @@ pub fn control_c() -> &'static [u8]
 }
 
 /// How a join byte is shown: as the hyphen that it stands for, and the end of its row.
-#[tactic(auto, unfolding(crate::specs::Shown::join_shown, crate::specs::Shown::end_of_line))]
+#[tactic(auto, unfolding(crate::specs::ScreenBytes::join_shown, crate::specs::ScreenBytes::end_of_line))]
 pub fn join_shown() -> &'static [u8]
     ensures { result.now ≡ join_shown }
 {

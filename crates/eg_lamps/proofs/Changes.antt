@@ -1,4 +1,4 @@
--- The lamp of one room, changed.
+-- [lamp] The lamp of one room, changed.
 use Rattle.std.proofs.Common.{◌≡◌, ℕ, ◌<◌, ◌≤◌, List, get_or, length, set, refl}
 use Rattle.std.proofs.lemmas.Option.{slice_get_past, slice_get_read}
 use Rattle.eg_lamps.specs.declared.lamps.Change.{Change}

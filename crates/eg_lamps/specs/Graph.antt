@@ -28,7 +28,7 @@ blocks =
     ∷ block Quoted Value LINE_END
     ∷ []
 
--- at node 0 a line begins, with nothing or a command; node 1 stands behind the room that DIM names: there the line
+-- at node 0 a line begins, with nothing or a command; node 1 stands after the room that DIM names: there the line
 -- ends, or a switch says by how much
 unfoldable pub lamp_nodes : List Node
 lamp_nodes =
@@ -36,7 +36,7 @@ lamp_nodes =
     ∷ node (confirm ∷ block (Switch 1) None LINE_END ∷ [])
     ∷ map (λ (it : Block). node (it ∷ [])) blocks
 
--- the commands, each with the node behind it
+-- the commands, each with the node after it
 unfoldable pub command_entries : List Entry
 command_entries =
     entry (codes "DIM") DIM 7

@@ -3,7 +3,7 @@ use Rattle.std.specs.Prelude.{ℕ, ◌-◌, ◌==◌, nat_le, if◌then◌else�
 use Rattle.std.specs.Fmt.{decimal}
 use Rattle.std.specs.List.{flat_map}
 use Rattle.std.specs.Option.{option_map_or}
-use Rattle.cm_text.specs.Shown.{end_of_line}
+use Rattle.cm_text.specs.ScreenBytes.{end_of_line}
 use Rattle.eg_lamps.specs.declared.lamps.Change.{Change}
 use Rattle.eg_lamps.specs.declared.lamps.Change.TheVariants.{Set, Dim, Note}
 use Rattle.eg_lamps.specs.declared.lamps.Command.{Command}
@@ -19,13 +19,13 @@ dark room = record { room = room; brightness = 0; note = [] }
 abbrev pub dark_lamps : List Lamp
 dark_lamps = map dark rooms
 
--- a lamp behind a change: a brightness past the limit is refused, and what is dimmed by more than it has is dark
+-- a lamp after a change: a brightness past the limit is refused, and what is dimmed by more than it has is dark
 abbrev pub changed : Change → Lamp → Lamp
 changed (Set level) lamp = if nat_le level BRIGHTEST then record lamp { brightness = level } else lamp
 changed (Dim by) lamp = record lamp { brightness = lamp.brightness - by }
 changed (Note note) lamp = record lamp { note = note }
 
--- what a command makes of the lamps; where there is no such room they stay
+-- [lamp] what a command makes of the lamps; where there is no such room they stay
 abbrev pub obeyed : Command → List Lamp → List Lamp
 obeyed (commands.Change room change) lamps =
     option_map_or (λ (lamp : Lamp). slice_set lamps room (changed change lamp)) (slice_get lamps room) lamps

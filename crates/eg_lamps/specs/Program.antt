@@ -1,10 +1,8 @@
--- The program: what it means, and the number that its process ends with.
-use Rattle.std.specs.Prelude.{ℕ, Bool, true, false, if◌then◌else◌, None, Some, Result, Ok, Err}
+-- The program: what it means.
+use Rattle.std.specs.Prelude.{Bool, true, false, if◌then◌else◌, None, Some}
 use Rattle.cm_files.specs.OneDirectory.{no_files}
 use Rattle.cm_state.specs.declared.prompt.Prompt.TheVariants.{Main}
-use Rattle.cm_run.specs.LineMeaning.{LineMeaning}
-use Rattle.cm_run.specs.declared.stop.Stop.{Stop}
-use Rattle.cm_run.specs.declared.stop.Stop.TheVariants as stop
+use Rattle.cm_run.specs.LineSemantics.{LineSemantics}
 use Rattle.eg_lamps.specs.Command.{command_of}
 use Rattle.eg_lamps.specs.Graph.{lamp_graph}
 use Rattle.eg_lamps.specs.Lamps.{dark_lamps, obeyed, reply}
@@ -23,8 +21,8 @@ is_quit commands.Quit = true
 is_quit command = false
 
 -- a confirmed line changes the lamps and shows its reply, and QUIT ends the run
-abbrev pub lamp_meaning : LineMeaning Program
-lamp_meaning = record {
+abbrev pub lamp_semantics : LineSemantics Program
+lamp_semantics = record {
   graph = lamp_graph;
   rules_of = λ at. room_meanings;
   catalogue_of = λ at. at.names;
@@ -35,12 +33,3 @@ lamp_meaning = record {
   };
   reply_of = λ at session. reply (command_of session) at.lamps;
 }
-
--- the number that the process ends with, where its run went so
-abbrev pub status_of : Result Unit Stop → ℕ
-status_of (Ok value) = 0
-status_of (Err stop.Limit) = 0
-status_of (Err stop.Keys) = 1
-status_of (Err stop.Screen) = 2
-status_of (Err stop.Log) = 2
-status_of (Err stop.Memory) = 3

@@ -34,7 +34,7 @@ pub fn grammar(alloc: Global) -> Result<Grammar, NoMemory>
     Ok(Grammar::of(nodes(alloc)?, tables))
 }
 
-// The commands, each with the node behind it.
+// The commands, each with the node after it.
 #[tactic(auto, unfolding(crate::specs::Graph::command_entries, cm_tables::specs::Order::table_fault))]
 fn commands(alloc: Global) -> Result<Table, NoMemory>
     ensures { IfOk result (λ table. table ≡ command_entries) }
@@ -56,7 +56,7 @@ fn switches(alloc: Global) -> Result<Table, NoMemory>
     Ok(Table::of(vec![in alloc; Entry::with_value("BY", 0, 6)]?))
 }
 
-// At node 0 a line begins, with nothing or a command. Node 1 stands behind the room that DIM names: there the line
+// At node 0 a line begins, with nothing or a command. Node 1 stands after the room that DIM names: there the line
 // ends, or a switch says by how much.
 #[tactic(auto, unfolding(crate::specs::Graph::lamp_nodes))]
 fn nodes(alloc: Global) -> Result<Vec<Node>, NoMemory>

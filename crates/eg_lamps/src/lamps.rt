@@ -1,7 +1,7 @@
 // The lamps, what a command makes of them, and what it shows.
 ghost use Rattle.std.specs.Prelude.{◌≡◌, ◌≤◌, length};
 ghost use Rattle.cm_io.specs.Fault.{PutCause};
-ghost use Rattle.cm_io.specs.Told.{Adds};
+ghost use Rattle.cm_io.specs.Contents.{Adds};
 ghost use Rattle.cm_io.specs.Writer.{Writes};
 ghost use Rattle.cm_text.specs.declared.name.TheConstants.{NAME_LIMIT};
 ghost use Rattle.eg_lamps.specs.Lamps.{blank, changed, dark, dark_lamps, lamp_line, lamp_lines, obeyed, reply};
@@ -70,15 +70,16 @@ fn dark(room: &str) -> Lamp
 /// Does what a command says, and shows its reply, which LIST and a refused SET have. It acts also where the screen
 /// fails.
 pub fn obey<S: Sink>(command: Command, lamps: &mut [Lamp], screen: &mut S) -> Put
+    // [lamp]
     ensures lamps { lamps.new ≡ obeyed command lamps.old }
-    ensures reply { Adds (S.told screen.old) (S.told screen.new) (reply command lamps.old) result }
+    ensures reply { Adds (S.contents screen.old) (S.contents screen.new) (reply command lamps.old) result }
     ensures later { S.faults screen.old ≤ S.faults screen.new }
     ensures cause { PutCause (S.faults screen.old) (S.faults screen.new) result }
 {
     let mut out = Writer::new(screen);
     put_reply(&command, lamps, &mut out);
     change_lamp(command, lamps);
-    out.went()
+    out.outcome()
 }
 
 // Changes the lamp of a room, of which there may be none.
@@ -131,7 +132,7 @@ fn put_lamps<S: Sink>(lamps: &[Lamp], out: &mut Writer<'_, S>)
     }
 }
 
-// Shows the line of a lamp: `HALL 40`, and the note behind it.
+// Shows the line of a lamp: `HALL 40`, and the note after it.
 #[tactic(auto, using(cm_io::proofs::Texts::texts), unfolding(crate::specs::Lamps::lamp_line))]
 fn put_lamp<S: Sink>(lamp: &Lamp, out: &mut Writer<'_, S>)
     ensures { Writes S.Sink out.old out.new (lamp_line lamp.now) }

@@ -10,5 +10,5 @@ mod rooms;
 
 pub use command::command_of;
 pub use lamps::{Change, Command, Lamp, dark_lamps, obey};
-pub use program::{Program, status_of};
+pub use program::Program;
 pub use rooms::RoomRules;

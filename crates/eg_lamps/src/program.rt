@@ -1,14 +1,14 @@
 // The program: the lamps, which act by lines alone, and their run.
 ghost use Rattle.std.specs.Prelude.{◌≡◌, ◌<◌, ◌++◌, ℕ, List, [], IsTrue};
-ghost use Rattle.cm_io.specs.Told.{Number};
+ghost use Rattle.cm_io.specs.Contents.{Number};
 ghost use Rattle.cm_run.specs.Keeping.{KeepsLine};
-ghost use Rattle.cm_run.specs.LineMeaning.{lines_only};
+ghost use Rattle.cm_run.specs.LineSemantics.{lines_only};
 ghost use Rattle.cm_run.specs.LineRun.{LineCause, LineRun};
-ghost use Rattle.cm_run.specs.Observed.{observed};
+ghost use Rattle.cm_run.specs.Observation.{observation};
 ghost use Rattle.tt_screen.specs.Grid.{feed};
 ghost use Rattle.tt_screen.specs.Holds.{Holds};
 ghost use Rattle.eg_lamps.specs.Graph.{lamp_graph};
-ghost use Rattle.eg_lamps.specs.Program.{lamp_meaning, lamp_start, status_of};
+ghost use Rattle.eg_lamps.specs.Program.{lamp_semantics, lamp_start};
 
 use crate::grammar::COMMANDS;
 use crate::{Command, Lamp, RoomRules, command_of, dark_lamps, obey};
@@ -55,14 +55,14 @@ impl Program {
     ) -> Result<(), Stop>
         requires grammar { grammar.now ≡ lamp_graph }
         // What stands is the trace of the run, or a cut of it.
-        ensures stands { IsTrue K.tells → LineRun lamp_meaning
-            (observed (S.told screen.old) (Number 0) (K.left keys.old) (K.gets keys.old) [] steps.old self.old)
-            (observed (S.told screen.new) (Number 0) (K.left keys.new) (K.gets keys.new) [] steps.new self.new)
+        ensures stands { IsTrue K.tells → LineRun lamp_semantics
+            (observation (S.contents screen.old) (Number 0) (K.left keys.old) (K.gets keys.old) [] steps.old self.old)
+            (observation (S.contents screen.new) (Number 0) (K.left keys.new) (K.gets keys.new) [] steps.new self.new)
             result }
-        // Behind each beginning of the keys taken the screen shows the prompt and the line, until QUIT.
+        // After each beginning of the keys taken the screen shows the prompt and the line, until QUIT.
         ensures screen { IsTrue K.tells → (taken rest : List ℕ)
             → (taken ++ rest) ++ K.left keys.new ≡ K.left keys.old
-            → KeepsLine feed Holds (lines_only lamp_meaning) self.old [] taken }
+            → KeepsLine feed Holds (lines_only lamp_semantics) self.old [] taken }
         // When each answer comes, by the counts of faults.
         ensures cause { LineCause (K.faults keys.old) (K.faults keys.new)
             (S.faults screen.old) (S.faults screen.new) result }
@@ -72,13 +72,13 @@ impl Program {
 }
 
 impl LineProgram for Program {
-    ghost use Rattle.eg_lamps.specs.Program.{lamp_meaning};
+    ghost use Rattle.eg_lamps.specs.Program.{lamp_semantics};
 
     type Rules = RoomRules;
 
     type Names = OneDirectory;
 
-    ghost means = { lamp_meaning };
+    ghost means = { lamp_semantics };
 
     fn names(&self) -> &OneDirectory {
         &self.names
@@ -101,18 +101,5 @@ impl LineProgram for Program {
         let command = command_of(session, grammar);
         self.has_quit = matches!(command, Command::Quit);
         obey(command, &mut self.lamps, screen)
-    }
-}
-
-/// The number that the process ends with: 0 where a run went to its end or as many keys were taken as it takes, 1 where
-/// the keys failed, 2 where the screen did, and 3 for want of memory, which may be before the first prompt.
-pub fn status_of(went: Result<(), Stop>) -> u8
-    ensures { result ≡ status_of went }
-{
-    match went {
-        Ok(()) | Err(Stop::Limit) => 0,
-        Err(Stop::Keys) => 1,
-        Err(Stop::Screen | Stop::Log) => 2,
-        Err(Stop::Memory) => 3,
     }
 }

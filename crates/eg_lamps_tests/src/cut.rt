@@ -1,8 +1,7 @@
 // Runs that a fault of the outside cuts short.
 use crate::given::{are_at, leaves, outcome_of};
 use cm_io::NoMemory;
-use cm_run::Stop;
-use eg_lamps::status_of;
+use cm_run::{Stop, status_of};
 use std::test::Fail;
 
 const KEYS: &[u8] = b"S H 50\rS H 101\r";
@@ -21,13 +20,14 @@ struct Cut<'a> {
 fn is_so(runtime: &HostRuntime, cut: &Cut<'_>) -> Result<bool, NoMemory> {
     let mut outcome = outcome_of(runtime, KEYS, cut.failing_get, cut.room)?;
     Ok(
-        outcome.went == Err(cut.why)
+        outcome.result == Err(cut.why)
             && outcome.screen.bytes() == cut.screen
             && are_at(&outcome.program, [cut.brightness, 0, 0, 0])
             && leaves(&mut outcome.keys, cut.left),
     )
 }
 
+// [run-cause]
 #[test]
 fn stops_where_the_keys_fail(rt: HostRuntime) -> Result<(), Fail> {
     let cut = Cut {
@@ -55,7 +55,7 @@ fn on_screen<'a>(room: u32, screen: &'a [u8], brightness: u64, left: &'a [u8]) -
 }
 
 #[test]
-fn takes_no_key_behind_a_failed_screen(rt: HostRuntime) -> Result<(), Fail> {
+fn takes_no_key_after_a_failed_screen(rt: HostRuntime) -> Result<(), Fail> {
     // In the first prompt, in an echo, in that of the key that confirms, in the next prompt and in a reply.
     for cut in [
         on_screen(0, b"", 0, KEYS),
@@ -71,13 +71,13 @@ fn takes_no_key_behind_a_failed_screen(rt: HostRuntime) -> Result<(), Fail> {
 
 #[test]
 fn each_end_has_its_number(rt: HostRuntime) {
-    for (went, number) in [
+    for (result, number) in [
         (Ok(()), 0),
         (Err(Stop::Limit), 0),
         (Err(Stop::Keys), 1),
         (Err(Stop::Screen), 2),
         (Err(Stop::Memory), 3),
     ] {
-        assert_eq!(rt; status_of(went), number);
+        assert_eq!(rt; status_of(result), number);
     }
 }

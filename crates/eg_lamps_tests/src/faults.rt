@@ -1,7 +1,7 @@
 // A session of the lamps with each get failing, and each put on the screen.
 //
 // What must stand is the trace of the whole session, cut where a call fails. The screen fails in one put alone, and
-// would take what is put behind it.
+// would take what is put after it.
 use crate::given::run_program;
 use cm_faults::{Faults, Part, PartSink, Stop as Cut, stands_at};
 use cm_io::{Got, MemSource, NoMemory, Source};
@@ -14,7 +14,7 @@ use std::test::Fail;
 
 const KEYS: &[u8] = b"S H 7\rD H\rQ\rX";
 
-// Behind `act` is how bright the lamp in the hall is.
+// After `act` is how bright the lamp in the hall is.
 const TRACE: &str = "act 0
 show @
 get
@@ -51,7 +51,7 @@ const PARTS: [Part; 3] = [Part::Nothing, Part::First, Part::AllButLast];
 // What stands at the end of a session, and how many keys are left.
 #[derive(Drop)]
 struct Outcome {
-    went: Result<(), Stop>,
+    result: Result<(), Stop>,
     level: u64,
     left: usize,
     screen: PartSink,
@@ -78,7 +78,7 @@ fn session(
     let mut program = Program::new();
     let mut keys = MemSource::new(runtime.alloc(), KEYS, get)?;
     let mut screen = PartSink::new(runtime.alloc(), 4096, put, part)?;
-    let went = run_program::<MemSource, PartSink, Brand>(
+    let result = run_program::<MemSource, PartSink, Brand>(
         runtime,
         Blank::new(1),
         &mut program,
@@ -86,7 +86,7 @@ fn session(
         &mut screen,
     );
     Ok(Outcome {
-        went,
+        result,
         level: program.lamps[0].brightness,
         left: count_left(&mut keys),
         screen,
@@ -110,7 +110,7 @@ fn is_cut(alloc: Global, outcome: &Outcome, faults: &Faults) -> Result<bool, All
         outcome.screen.bytes() == wanted.screen.as_slice()
             && level.as_bytes() == wanted.state.as_slice()
             && outcome.left.saturating_add(wanted.gets) == KEYS.len()
-            && outcome.went == end_of(wanted.stop),
+            && outcome.result == end_of(wanted.stop),
     )
 }
 
@@ -124,20 +124,20 @@ fn try_get(runtime: &HostRuntime, get: u32) -> Result<(), Fail> {
     if is_cut(runtime.alloc(), &outcome, &faults)? {
         return Ok(());
     }
-    Err(Fail::new(format_args!("get {get}: {:?}", outcome.went)))
+    Err(Fail::new(format_args!("get {get}: {:?}", outcome.result)))
 }
 
 fn try_put(runtime: &HostRuntime, put: usize, part: Part, whole: &Outcome) -> Result<(), Fail> {
     let outcome = session(runtime, None, Some(put), part)?;
     let faults = Faults {
         gets: None,
-        screen: whole.screen.held_behind(put, part),
+        screen: whole.screen.held_after(put, part),
         log: None,
     };
     if is_cut(runtime.alloc(), &outcome, &faults)? {
         return Ok(());
     }
-    Err(Fail::new(format_args!("put {put} {part:?}: {:?}", outcome.went)))
+    Err(Fail::new(format_args!("put {put} {part:?}: {:?}", outcome.result)))
 }
 
 fn try_puts(runtime: &HostRuntime, part: Part) -> Result<(), Fail> {
@@ -149,7 +149,7 @@ fn try_puts(runtime: &HostRuntime, part: Part) -> Result<(), Fail> {
     Ok(())
 }
 
-// Behind the 12 gets before QUIT ends the session there is none more.
+// After the 12 gets before QUIT ends the session there is none more.
 #[test]
 fn stands_where_the_keys_fail(rt: HostRuntime) -> Result<(), Fail> {
     for get in 0..13u32 {

@@ -13,7 +13,7 @@ use std::test::Fail;
 // What stands at the end of a run.
 #[derive(Drop)]
 pub struct Outcome {
-    pub went: Result<(), Stop>,
+    pub result: Result<(), Stop>,
     pub program: Program,
     pub keys: MemSource,
     pub screen: MemSink,
@@ -28,12 +28,12 @@ pub(crate) fn outcome_of(
 ) -> Result<Outcome, NoMemory> {
     let alloc = runtime.alloc();
     let mut outcome = Outcome {
-        went: Err(Stop::Memory),
+        result: Err(Stop::Memory),
         program: Program::new(),
         keys: MemSource::new(alloc, keys, failing_get)?,
         screen: MemSink::new(alloc, room)?,
     };
-    outcome.went = run_program::<MemSource, MemSink, Brand>(
+    outcome.result = run_program::<MemSource, MemSink, Brand>(
         runtime,
         Blank::new(1),
         &mut outcome.program,
@@ -84,7 +84,7 @@ pub(crate) fn try_cases(runtime: &HostRuntime, cases: &[Case<'_>]) -> Result<(),
 fn is_so(runtime: &HostRuntime, case: &Case<'_>) -> Result<bool, NoMemory> {
     let mut outcome = outcome_of(runtime, case.keys, None, 4096)?;
     Ok(
-        outcome.went == Ok(())
+        outcome.result == Ok(())
             && outcome.screen.bytes() == case.screen
             && are_at(&outcome.program, case.levels)
             && leaves(&mut outcome.keys, b""),

@@ -10,6 +10,7 @@ fn case<'a>(keys: &'a [u8], screen: &'a [u8], levels: [u64; 4]) -> Case<'a> {
     }
 }
 
+// [lamp]
 #[test]
 fn sets_lamps(rt: HostRuntime) -> Result<(), Fail> {
     let cases = [
@@ -96,6 +97,7 @@ fn lists_lamps_and_notes(rt: HostRuntime) -> Result<(), Fail> {
     try_cases(&rt, &cases)
 }
 
+// [confirmation]
 #[test]
 fn acts_on_confirmed_lines_alone(rt: HostRuntime) -> Result<(), Fail> {
     let cases = [
@@ -160,9 +162,9 @@ fn explains_what_may_come(rt: HostRuntime) -> Result<(), Fail> {
 }
 
 #[test]
-fn takes_no_key_behind_quit(rt: HostRuntime) -> Result<(), Fail> {
+fn takes_no_key_after_quit(rt: HostRuntime) -> Result<(), Fail> {
     let mut outcome = outcome_of(&rt, b"Q\rLIST\r", None, 4096)?;
-    let is_done = outcome.went == Ok(()) && outcome.screen.bytes() == b"@Q\r\n".as_slice();
+    let is_done = outcome.result == Ok(()) && outcome.screen.bytes() == b"@Q\r\n".as_slice();
     assert!(rt; is_done && leaves(&mut outcome.keys, b"LIST\r"));
     Ok(())
 }

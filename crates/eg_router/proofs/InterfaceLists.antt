@@ -1,4 +1,4 @@
--- What is done to the interfaces leaves interfaces.
+-- [router-setting] What is done to the interfaces leaves interfaces.
 use Rattle.std.proofs.Common.{◌≡◌, ◌<◌, ◌≤◌, ℕ, Bool, true, false, not, if◌then◌else◌, List, [], ◌∷◌, length, filter, get_or, insert, set, refl, ap, arith, sym, ◌∙◌}
 use Rattle.std.specs.Prelude.{Option, None, Some, slice_get, slice_set}
 use Rattle.std.specs.List.{list_all, refill, remove}
@@ -12,13 +12,15 @@ use Rattle.std.proofs.lemmas.Option.{get_or_from_slice_get, slice_get_read}
 use Rattle.std.proofs.Math.Seq.{map-set_same}
 use Rattle.cm_lists.proofs.Bools.{second_of_or}
 use Rattle.cm_lists.proofs.Quantifiers.{all_filter}
-use Rattle.cm_files.specs.Catalogue.{ascends, by_bytes}
+use Rattle.cm_lists.specs.Ascent.{ascends, insertion}
+use Rattle.cm_files.specs.Catalogue.{by_bytes}
 use Rattle.eg_router.specs.Interfaces.{AreInterfaces, by_name, changed, fresh, has, is_interface_name, may_enter, names_of, place, with_change, without_name}
 use Rattle.eg_router.specs.declared.interface.Change.{Change}
 use Rattle.eg_router.specs.declared.interface.Change.TheVariants.{Address, Description, Shutdown}
 use Rattle.eg_router.specs.declared.interface.Interface.{Interface}
 use Rattle.eg_router.specs.declared.interfaces.TheConstants.{INTERFACE_LIMIT}
-use Rattle.eg_router.proofs.Insertions.{found_within, inserted_all, inserted_ascends, inserted_length, inserted_there, insertion, kept_ascends, none_removed, removed_there, sorted_ascends}
+use Rattle.cm_lists.proofs.Ascents.{ascends_filter, sorted_ascends}
+use Rattle.cm_lists.proofs.Insertions.{found_within, inserted_all, inserted_ascends, inserted_length, inserted_there, none_removed, removed_there}
 use Rattle.eg_router.proofs.Names.{ascends_names, by_name_total}
 
 -- a new one has a name, and there is room for it
@@ -83,7 +85,7 @@ without_are name interfaces are =
     record {
       few = omega arith;
       names = all_filter (λ (it : Interface). is_interface_name it.name) keep interfaces are.names;
-      ascend = kept_ascends by_name by_name_total keep interfaces are.ascend;
+      ascend = ascends_filter by_name by_name_total keep interfaces are.ascend;
     }
 
 -- a change leaves the name

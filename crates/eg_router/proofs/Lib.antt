@@ -2,7 +2,6 @@ pub mod Completions
 pub mod Entries
 pub mod Faultless
 pub mod Fields
-pub mod Insertions
 pub mod InterfaceLists
 pub mod Listings
 pub mod Names

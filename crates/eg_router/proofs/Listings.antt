@@ -26,7 +26,7 @@ use Rattle.eg_router.specs.declared.interface.Interface.{Interface}
 use Rattle.eg_router.specs.declared.interfaces.TheConstants.{INTERFACE_LIMIT}
 use Rattle.eg_router.specs.declared.router.Mode.TheVariants as modes
 use Rattle.eg_router.specs.declared.router.Router.{Router}
-use Rattle.eg_router.proofs.Insertions.{sorted_ascends}
+use Rattle.cm_lists.proofs.Ascents.{sorted_ascends}
 use Rattle.eg_router.proofs.Names.{by_name_total}
 
 -- commands in turn
@@ -50,7 +50,7 @@ none_has name (it ∷ front) below =
     or_none true b first second = absurd (cc)
     or_none a true first second = absurd (cc)
 
--- and its place is behind them
+-- and its place is after them
 last_place : (name : List ℕ) (front : List Interface) → all_below name front ≡ true → place name front ≡ length front
 last_place name [] below = refl
 last_place name (it ∷ front) below =
@@ -63,11 +63,11 @@ put_last : (front : List Interface) (new : Interface) → insert front (length f
 put_last [] new = refl
 put_last (it ∷ front) new = ap (λ (others : List Interface). it ∷ others) (put_last front new)
 
--- the mode of the interface behind these
+-- the mode of the interface after these
 abbrev inside : List Interface → Interface → Router
 inside front it = record { names = no_files; interfaces = front ++ it ∷ []; mode = modes.Interface (length front) }
 
--- a new one is entered behind those that stand below it
+-- a new one is entered after those that stand below it
 enters : (name : List ℕ) (front : List Interface) → all_below name front ≡ true → is_interface_name name ≡ true
     → length front < INTERFACE_LIMIT → obeyed (commands.Interface name) (configuring front) ≡ inside front (fresh name)
 enters name front below is room =
@@ -97,7 +97,7 @@ shutdown_set : (front : List Interface) (it : Interface) (is_down : Bool) → it
 shutdown_set front it true is = changes_it front it (changes.Shutdown true)
 shutdown_set front it false is = ap (λ (is_down : Bool). inside front (record it { is_down = is_down })) is
 
--- the commands of one interface make it behind those that stand below it
+-- the commands of one interface make it after those that stand below it
 made : (front : List Interface) (it : Interface) → all_below it.name front ≡ true → is_interface_name it.name ≡ true
     → length front < INTERFACE_LIMIT → obeyed_all (commands_of it) (configuring front) ≡ configuring (front ++ it ∷ [])
 made front it below is room =

@@ -11,7 +11,7 @@ use Rattle.cm_blocks.specs.declared.function.Role.TheVariants as roles
 use Rattle.cm_blocks.specs.FieldView.{FieldView}
 use Rattle.cm_state.specs.SessionState.{SessionState, text_of}
 use Rattle.cm_state.specs.Roles.{field_of}
-use Rattle.cm_state.specs.Said.{said}
+use Rattle.cm_state.specs.FieldText.{said}
 use Rattle.eg_router.specs.Graph.{router_graph}
 use Rattle.eg_router.specs.declared.command.Command.{Command}
 use Rattle.eg_router.specs.declared.command.Command.TheVariants as commands

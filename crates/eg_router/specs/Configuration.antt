@@ -2,7 +2,7 @@
 use Rattle.std.specs.Prelude.{ℕ, ◌==◌, Bool, true, if◌then◌else◌, List, [], ◌∷◌, ◌++◌, length, codes, Option, None, Some}
 use Rattle.std.specs.Fmt.{decimal}
 use Rattle.std.specs.List.{flat_map}
-use Rattle.cm_text.specs.Shown.{end_of_line}
+use Rattle.cm_text.specs.ScreenBytes.{end_of_line}
 use Rattle.eg_router.specs.declared.command.Command.{Command}
 use Rattle.eg_router.specs.declared.command.Command.TheVariants as commands
 use Rattle.eg_router.specs.declared.command.Shown.TheVariants as shown
@@ -50,7 +50,8 @@ address_line None = []
 address_line (Some address) = address_word ++ dotted address ++ end_of_line
 
 unfoldable pub description_line : List ℕ → List ℕ
-description_line text = if length text == 0 then [] else description_word ++ flat_map quoted_byte text ++ quote ++ end_of_line
+description_line text = if length text == 0 then [] else description_word ++ flat_map quoted_byte text ++ quote
+    ++ end_of_line
 
 unfoldable pub shutdown_line : Bool → List ℕ
 shutdown_line is_down = if is_down then shutdown_word ++ end_of_line else []

@@ -7,7 +7,8 @@ use Rattle.std.specs.Ordering.{is_eq, is_lt, on}
 use Rattle.std.specs.declared.cmp.Ordering.{Ordering}
 use Rattle.cm_text.specs.Bytes.{is_word}
 use Rattle.cm_text.specs.declared.name.TheConstants.{NAME_LIMIT}
-use Rattle.cm_files.specs.Catalogue.{ascends, by_bytes}
+use Rattle.cm_lists.specs.Ascent.{ascends}
+use Rattle.cm_files.specs.Catalogue.{by_bytes}
 use Rattle.eg_router.specs.declared.interface.Change.{Change}
 use Rattle.eg_router.specs.declared.interface.Change.TheVariants.{Address, Description, Shutdown}
 use Rattle.eg_router.specs.declared.interface.Interface.{Interface}
@@ -17,7 +18,7 @@ use Rattle.eg_router.specs.declared.interfaces.TheConstants.{INTERFACE_LIMIT}
 abbrev pub fresh : List ℕ → Interface
 fresh name = record { name = name; address = None; description = []; is_down = false }
 
--- an interface behind a change
+-- an interface after a change
 abbrev pub changed : Change → Interface → Interface
 changed (Address address) it = record it { address = address }
 changed (Description text) it = record it { description = text }

@@ -1,11 +1,9 @@
--- The program: what it means, and the number that its process ends with.
-use Rattle.std.specs.Prelude.{ℕ, List, codes, Option, None, Some, Result, Ok, Err}
+-- The program: what it means.
+use Rattle.std.specs.Prelude.{ℕ, List, codes, Option, None, Some}
 use Rattle.cm_state.specs.Label.{label_of}
 use Rattle.cm_state.specs.declared.prompt.Prompt.{Prompt}
 use Rattle.cm_state.specs.declared.prompt.Prompt.TheVariants.{Named}
-use Rattle.cm_run.specs.LineMeaning.{LineMeaning}
-use Rattle.cm_run.specs.declared.stop.Stop.{Stop}
-use Rattle.cm_run.specs.declared.stop.Stop.TheVariants as stop
+use Rattle.cm_run.specs.LineSemantics.{LineSemantics}
 use Rattle.eg_router.specs.Command.{command_of}
 use Rattle.eg_router.specs.Configuration.{reply}
 use Rattle.eg_router.specs.Graph.{router_graph}
@@ -16,7 +14,7 @@ use Rattle.eg_router.specs.declared.router.Mode.{Mode}
 use Rattle.eg_router.specs.declared.router.Mode.TheVariants as modes
 use Rattle.eg_router.specs.declared.router.Router.{Router}
 
--- a name and a mark behind it
+-- a name and a mark after it
 abbrev pub prompt : List ℕ → ℕ → Prompt
 prompt name mark = Named (label_of name) mark
 
@@ -30,8 +28,8 @@ line_in modes.Protocol = Some (PROTOCOL_LINES, prompt (codes "router(config-rout
 line_in modes.Ended = None
 
 -- its interfaces are the rules; a line that is confirmed does what it commands, and shows its reply
-abbrev pub router_meaning : LineMeaning Router
-router_meaning = record {
+abbrev pub router_semantics : LineSemantics Router
+router_semantics = record {
   graph = router_graph;
   rules_of = λ at. router_rules at.interfaces;
   catalogue_of = λ at. at.names;
@@ -39,12 +37,3 @@ router_meaning = record {
   state_of = λ at session. obeyed (command_of session) at;
   reply_of = λ at session. reply (command_of session) at.interfaces;
 }
-
--- the number that the process ends with, where its run went so
-abbrev pub status_of : Result Unit Stop → ℕ
-status_of (Ok value) = 0
-status_of (Err stop.Limit) = 0
-status_of (Err stop.Keys) = 1
-status_of (Err stop.Screen) = 2
-status_of (Err stop.Log) = 2
-status_of (Err stop.Memory) = 3

@@ -39,7 +39,7 @@ abbrev pub with_setting : Mode → Change → List Interface → List Interface
 with_setting (modes.Interface at) change interfaces = with_change at change interfaces
 with_setting mode change interfaces = interfaces
 
--- what a command makes of the router
+-- [router-setting] what a command makes of the router
 abbrev pub obeyed : Command → Router → Router
 obeyed commands.Nothing at = at
 obeyed (commands.Go mode) at = record at { mode = mode }

@@ -1,4 +1,4 @@
--- The keyword tables of the router, each entry with its code and the node behind it.
+-- The keyword tables of the router, each entry with its code and the node after it.
 use Rattle.std.specs.Prelude.{ℕ, List, [], ◌∷◌, ◌++◌, codes}
 use Rattle.cm_tables.specs.declared.entry.Entry.{Entry}
 use Rattle.cm_tables.specs.Words.{entry, with_help}
@@ -16,7 +16,7 @@ user_entries =
     ∷ word (codes "SHOW") SHOW 7 (codes "Show the system")
     ∷ []
 
--- in that behind ENABLE
+-- in that after ENABLE
 unfoldable pub privileged_entries : List Entry
 privileged_entries =
     word (codes "CONFIGURE") CONFIGURE 6 (codes "Configure the router")
@@ -24,7 +24,7 @@ privileged_entries =
     ∷ word (codes "SHOW") SHOW 7 (codes "Show the system")
     ∷ []
 
--- in that behind CONFIGURE TERMINAL
+-- in that after CONFIGURE TERMINAL
 unfoldable pub configuration_entries : List Entry
 configuration_entries =
     word (codes "END") END LINE_END (codes "End current mode")
@@ -52,13 +52,13 @@ protocol_entries =
     ∷ word (codes "EXIT") EXIT LINE_END (codes "Exit current mode")
     ∷ []
 
--- behind CONFIGURE
+-- after CONFIGURE
 unfoldable pub terminal_entries : List Entry
 terminal_entries =
     word (codes "TERMINAL") CONFIGURE LINE_END (codes "From the terminal")
     ∷ []
 
--- behind SHOW
+-- after SHOW
 unfoldable pub topic_entries : List Entry
 topic_entries =
     word (codes "INTERFACES") INTERFACE LINE_END (codes "Interface status")
@@ -66,13 +66,13 @@ topic_entries =
     ∷ word (codes "VERSION") VERSION LINE_END (codes "System version")
     ∷ []
 
--- behind NO where interfaces are made
+-- after NO where interfaces are made
 unfoldable pub removal_entries : List Entry
 removal_entries =
     word (codes "INTERFACE") INTERFACE 9 (codes "Remove an interface")
     ∷ []
 
--- behind NO in the mode of an interface
+-- after NO in the mode of an interface
 unfoldable pub setting_entries : List Entry
 setting_entries =
     word (codes "ADDRESS") ADDRESS LINE_END (codes "Take the IP address")
@@ -85,7 +85,7 @@ unfoldable pub mode_tables : List (List Entry)
 mode_tables =
     user_entries ∷ privileged_entries ∷ configuration_entries ∷ interface_entries ∷ protocol_entries ∷ []
 
--- and those behind a keyword
+-- and those after a keyword
 unfoldable pub further_tables : List (List Entry)
 further_tables = terminal_entries ∷ topic_entries ∷ removal_entries ∷ setting_entries ∷ []
 

@@ -1,7 +1,7 @@
 // What the router shows.
 ghost use Rattle.std.specs.Prelude.{◌≡◌};
 ghost use Rattle.std.specs.List.{flat_map};
-ghost use Rattle.cm_text.specs.Shown.{end_of_line};
+ghost use Rattle.cm_text.specs.ScreenBytes.{end_of_line};
 ghost use Rattle.cm_io.specs.Writer.{Writes};
 ghost use Rattle.eg_router.specs.Configuration.{address_line, address_text, address_word, blank, configuration, configuration_of, description_line, description_word, dotted, interface_line, interface_lines, interface_word, quoted_byte, reply, shutdown_line};
 

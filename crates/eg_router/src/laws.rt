@@ -6,12 +6,12 @@ ghost use Rattle.cm_fields.specs.Quoted.{unquoted};
 ghost use Rattle.cm_hooks.specs.Meanings.{IsYes};
 ghost use Rattle.cm_hooks.specs.declared.answer.Answer.TheVariants.{Yes};
 ghost use Rattle.cm_run.specs.Keeping.{IsLineKeeping};
-ghost use Rattle.cm_run.specs.LineMeaning.{lines_only};
+ghost use Rattle.cm_run.specs.LineSemantics.{lines_only};
 ghost use Rattle.eg_router.specs.Command.{upper};
 ghost use Rattle.eg_router.specs.Configuration.{configuration, line_of, listing, quoted_byte};
 ghost use Rattle.eg_router.specs.Interfaces.{AreInterfaces, is_interface_name, may_enter};
 ghost use Rattle.eg_router.specs.Rules.{new_name_verdict, octet_verdict};
-ghost use Rattle.eg_router.specs.Program.{router_meaning};
+ghost use Rattle.eg_router.specs.Program.{router_semantics};
 ghost use Rattle.eg_router.specs.Router.{configuring, obeyed_all};
 ghost use Rattle.eg_router.specs.declared.grammar.TheConstants.{ADDRESS, CONFIGURATION_LINES, CONFIGURE, DESCRIPTION, ENABLE, END, EXIT, INTERFACE, INTERFACE_LINES, LINE_END, NO, PRIVILEGED_LINES, PROTOCOL_LINES, ROUTER, RUNNING, SHOW, SHUTDOWN, USER_LINES, VERSION};
 ghost use Rattle.eg_router.specs.declared.interface.Interface.{Interface};
@@ -41,7 +41,7 @@ pub fn the_fields_are_what_was_written()
 /// Each reply of the router is nothing, or ends with a line feed, and its prompts are printed bytes: so the screen
 /// shows prompt and line between keys.
 pub fn the_router_keeps_its_lines()
-    ensures { IsLineKeeping (lines_only router_meaning) }
+    ensures { IsLineKeeping (lines_only router_semantics) }
 {}
 
 /// A name that INTERFACE takes in the line may be entered, so that the act refuses none.

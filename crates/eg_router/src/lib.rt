@@ -16,6 +16,5 @@ mod tables;
 pub use command::{Command, Shown, command_of};
 pub use interface::{Address, Change, Interface};
 pub use interfaces::{INTERFACE_LIMIT, Interfaces};
-pub use program::status_of;
 pub use router::{Mode, Router};
 pub use rules::OCTET_LIMIT;

@@ -1,15 +1,15 @@
 // The router as a program, which acts by lines alone, and its run.
 ghost use Rattle.std.specs.Prelude.{◌≡◌, ◌≤◌, ◌<◌, ◌++◌, ℕ, List, [], IsTrue, length};
 ghost use Rattle.cm_text.specs.declared.name.TheConstants.{NAME_LIMIT};
-ghost use Rattle.cm_io.specs.Told.{Number};
+ghost use Rattle.cm_io.specs.Contents.{Number};
 ghost use Rattle.cm_run.specs.Keeping.{KeepsLine};
-ghost use Rattle.cm_run.specs.LineMeaning.{lines_only};
+ghost use Rattle.cm_run.specs.LineSemantics.{lines_only};
 ghost use Rattle.cm_run.specs.LineRun.{LineCause, LineRun};
-ghost use Rattle.cm_run.specs.Observed.{observed};
+ghost use Rattle.cm_run.specs.Observation.{observation};
 ghost use Rattle.tt_screen.specs.Grid.{feed};
 ghost use Rattle.tt_screen.specs.Holds.{Holds};
 ghost use Rattle.eg_router.specs.Graph.{router_graph};
-ghost use Rattle.eg_router.specs.Program.{prompt, router_meaning, status_of};
+ghost use Rattle.eg_router.specs.Program.{prompt, router_semantics};
 
 use crate::grammar::{
     CONFIGURATION_LINES, INTERFACE_LINES, PRIVILEGED_LINES, PROTOCOL_LINES, USER_LINES,
@@ -38,14 +38,14 @@ impl Router {
     ) -> Result<(), Stop>
         requires grammar { grammar.now ≡ router_graph }
         // What stands is the trace of the run, or a cut of it.
-        ensures stands { IsTrue K.tells → LineRun router_meaning
-            (observed (S.told screen.old) (Number 0) (K.left keys.old) (K.gets keys.old) [] steps.old self.old)
-            (observed (S.told screen.new) (Number 0) (K.left keys.new) (K.gets keys.new) [] steps.new self.new)
+        ensures stands { IsTrue K.tells → LineRun router_semantics
+            (observation (S.contents screen.old) (Number 0) (K.left keys.old) (K.gets keys.old) [] steps.old self.old)
+            (observation (S.contents screen.new) (Number 0) (K.left keys.new) (K.gets keys.new) [] steps.new self.new)
             result }
-        // Behind each beginning of the keys taken the screen shows the prompt and the line, until the run has ended.
+        // After each beginning of the keys taken the screen shows the prompt and the line, until the run has ended.
         ensures screen { IsTrue K.tells → (taken rest : List ℕ)
             → (taken ++ rest) ++ K.left keys.new ≡ K.left keys.old
-            → KeepsLine feed Holds (lines_only router_meaning) self.old [] taken }
+            → KeepsLine feed Holds (lines_only router_semantics) self.old [] taken }
         // When each answer comes, by the counts of faults.
         ensures cause { LineCause (K.faults keys.old) (K.faults keys.new)
             (S.faults screen.old) (S.faults screen.new) result }
@@ -55,13 +55,13 @@ impl Router {
 }
 
 impl LineProgram for Router {
-    ghost use Rattle.eg_router.specs.Program.{router_meaning};
+    ghost use Rattle.eg_router.specs.Program.{router_semantics};
 
     type Rules = Interfaces;
 
     type Names = OneDirectory;
 
-    ghost means = { router_meaning };
+    ghost means = { router_semantics };
 
     fn names(&self) -> &OneDirectory {
         &self.names
@@ -94,17 +94,4 @@ fn prompt(name: &str, mark: u8) -> Prompt
     ensures { result ≡ prompt name.now mark }
 {
     Prompt::Named(Label::of(&Name::new(name)), mark)
-}
-
-/// The number that the process ends with: 0 where a run went to its end or as many keys were taken as it takes, 1 where
-/// the keys failed, 2 where the screen did, and 3 for want of memory, which may be before the first prompt.
-pub fn status_of(went: Result<(), Stop>) -> u8
-    ensures { result ≡ status_of went }
-{
-    match went {
-        Ok(()) | Err(Stop::Limit) => 0,
-        Err(Stop::Keys) => 1,
-        Err(Stop::Screen | Stop::Log) => 2,
-        Err(Stop::Memory) => 3,
-    }
 }

@@ -1,7 +1,7 @@
 // The router in its course, and what a command makes of it.
 ghost use Rattle.std.specs.Prelude.{◌≡◌, ◌≤◌};
 ghost use Rattle.cm_io.specs.Fault.{PutCause};
-ghost use Rattle.cm_io.specs.Told.{Adds};
+ghost use Rattle.cm_io.specs.Contents.{Adds};
 ghost use Rattle.eg_router.specs.Configuration.{reply};
 ghost use Rattle.eg_router.specs.Router.{above, entered, obeyed, router_start, with_setting};
 
@@ -16,15 +16,15 @@ use cm_text::Name;
 pub enum Mode {
     /// At first, `router>`.
     User,
-    /// Behind ENABLE, `router#`.
+    /// After ENABLE, `router#`.
     Privileged,
-    /// Behind CONFIGURE TERMINAL, `router(config)#`.
+    /// After CONFIGURE TERMINAL, `router(config)#`.
     Configuration,
-    /// Behind INTERFACE, `router(config-if)#`: of the interface at this place.
+    /// After INTERFACE, `router(config-if)#`: of the interface at this place.
     Interface(usize),
-    /// Behind ROUTER, `router(config-router)#`.
+    /// After ROUTER, `router(config-router)#`.
     Protocol,
-    /// Behind EXIT in the first mode: the run has ended.
+    /// After EXIT in the first mode: the run has ended.
     Ended,
 }
 
@@ -53,15 +53,17 @@ impl Router {
 
     /// Does what a command says, and shows its reply. It acts also where the screen fails.
     pub fn obey_command<S: Sink>(&mut self, command: Command, screen: &mut S) -> Put
+        // [router-setting]
         ensures state { self.new ≡ obeyed command self.old }
-        ensures reply { Adds (S.told screen.old) (S.told screen.new) (reply command self.old.interfaces) result }
+        ensures reply { Adds (S.contents screen.old) (S.contents screen.new)
+            (reply command self.old.interfaces) result }
         ensures later { S.faults screen.old ≤ S.faults screen.new }
         ensures cause { PutCause (S.faults screen.old) (S.faults screen.new) result }
     {
         let mut out = Writer::new(screen);
         put_reply(&command, &self.interfaces, &mut out);
         self.change(command);
-        out.went()
+        out.outcome()
     }
 
     fn change(&mut self, command: Command)

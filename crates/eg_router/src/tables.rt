@@ -1,4 +1,4 @@
-// The keyword tables of the router, each entry with its code and the node behind it.
+// The keyword tables of the router, each entry with its code and the node after it.
 ghost use Rattle.std.specs.Prelude.{◌≡◌, ◌≤◌, IfOk, length};
 ghost use Rattle.cm_text.specs.declared.name.TheConstants.{NAME_LIMIT};
 ghost use Rattle.eg_router.specs.Tables.{further_tables, mode_tables, router_tables, word};
@@ -11,7 +11,7 @@ use cm_io::NoMemory;
 use cm_tables::{Entry, Table};
 use std::alloc::Global;
 
-// Those of the modes, and then those behind a keyword.
+// Those of the modes, and then those after a keyword.
 #[tactic(auto, unfolding(crate::specs::Tables::router_tables))]
 pub(crate) fn tables(alloc: Global) -> Result<Vec<Table>, NoMemory>
     ensures { IfOk result (λ tables. tables.items ≡ router_tables) }
@@ -61,7 +61,7 @@ fn mode_tables(alloc: Global) -> Result<Vec<Table>, NoMemory>
     ]?)
 }
 
-// Behind CONFIGURE, SHOW, NO where interfaces are made, and NO in the mode of an interface.
+// After CONFIGURE, SHOW, NO where interfaces are made, and NO in the mode of an interface.
 #[tactic(auto, unfolding(crate::specs::Tables::further_tables, crate::specs::Tables::terminal_entries, crate::specs::Tables::topic_entries, crate::specs::Tables::removal_entries, crate::specs::Tables::setting_entries, cm_tables::specs::Order::table_fault))]
 fn further_tables(alloc: Global) -> Result<Vec<Table>, NoMemory>
     ensures { IfOk result (λ tables. tables.items ≡ further_tables) }

@@ -36,6 +36,7 @@ fn has_made(
         && interface.is_down == is_down
 }
 
+// [router-setting]
 #[test]
 fn each_line_of_it_makes_its_setting(rt: HostRuntime) -> Result<(), Fail> {
     let address = Address {
@@ -65,7 +66,7 @@ fn each_line_of_it_makes_its_setting(rt: HostRuntime) -> Result<(), Fail> {
         let keys = format!(in rt.alloc(); "enable\rconfigure terminal\r{lines}")?;
         let outcome = outcome_of(&rt, keys.as_bytes(), None, 4096)?;
         let made = outcome.router.interfaces.as_slice();
-        assert!(rt; outcome.went == Ok(()) && made.len() == 1, "{lines}");
+        assert!(rt; outcome.result == Ok(()) && made.len() == 1, "{lines}");
         assert!(rt; has_made(&made[0], name, address, text, is_down), "{lines}");
     }
     Ok(())
@@ -84,7 +85,7 @@ fn there_are_at_most_sixteen(rt: HostRuntime) -> Result<(), Fail> {
     let shown = outcome.screen.bytes();
     // The last is refused, so that its EXIT leaves the mode of configuration.
     let refusal = b"int e16\r\n?Too many interfaces\r\nrouter(config)#exit\r\nrouter#".as_slice();
-    assert!(rt; outcome.went == Ok::<(), Stop>(()) && shown.ends_with(refusal));
+    assert!(rt; outcome.result == Ok::<(), Stop>(()) && shown.ends_with(refusal));
     assert_eq!(rt; outcome.router.interfaces.as_slice().len(), 16);
     Ok(())
 }

@@ -13,7 +13,7 @@ use std::test::Fail;
 // What stands at the end of a run.
 #[derive(Drop)]
 pub struct Outcome {
-    pub went: Result<(), Stop>,
+    pub result: Result<(), Stop>,
     pub router: Router,
     pub keys: MemSource,
     pub screen: MemSink,
@@ -30,7 +30,7 @@ pub(crate) fn outcome_of(
     let mut router = Router::new();
     let mut source = MemSource::new(alloc, keys, failing_get)?;
     let mut screen = MemSink::new(alloc, room)?;
-    let went = run_program::<MemSource, MemSink, Brand>(
+    let result = run_program::<MemSource, MemSink, Brand>(
         runtime,
         Blank::new(1),
         &mut router,
@@ -38,7 +38,7 @@ pub(crate) fn outcome_of(
         &mut screen,
     );
     Ok(Outcome {
-        went,
+        result,
         router,
         keys: source,
         screen,
@@ -59,7 +59,7 @@ pub(crate) fn leaves(keys: &mut MemSource, left: &[u8]) -> bool {
 pub(crate) fn try_cases(runtime: &HostRuntime, cases: &[(&[u8], &[u8])]) -> Result<(), Fail> {
     for (keys, screen) in cases {
         let mut outcome = outcome_of(runtime, keys, None, 4096)?;
-        let is_so = outcome.went == Ok(())
+        let is_so = outcome.result == Ok(())
             && outcome.screen.bytes() == *screen
             && leaves(&mut outcome.keys, b"");
         if !is_so {

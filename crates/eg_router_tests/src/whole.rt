@@ -56,9 +56,10 @@ fn exit_goes_one_mode_up_and_end_to_the_second(rt: HostRuntime) -> Result<(), Fa
 }
 
 #[test]
-fn takes_no_key_behind_the_end(rt: HostRuntime) -> Result<(), Fail> {
+fn takes_no_key_after_the_end(rt: HostRuntime) -> Result<(), Fail> {
     let mut outcome = outcome_of(&rt, b"exit\ren\r", None, 4096)?;
-    let is_done = outcome.went == Ok(()) && outcome.screen.bytes() == b"router>exit\r\n".as_slice();
+    let is_done = outcome.result == Ok(())
+        && outcome.screen.bytes() == b"router>exit\r\n".as_slice();
     assert!(rt; is_done && leaves(&mut outcome.keys, b"en\r"));
     Ok(())
 }

@@ -1,20 +1,20 @@
 -- How a run is closed.
 use Rattle.std.proofs.Common.{◌≡◌, ℕ, Result, Ok, Err, refl, sym, ◌∙◌, subst, inl, inr}
 use Rattle.cm_io.specs.Fault.{Rose}
-use Rattle.cm_io.specs.Told.{Told}
+use Rattle.cm_io.specs.Contents.{Contents}
 use Rattle.cm_io.specs.declared.status.Status.{Status}
 use Rattle.cm_io.specs.declared.status.Status.TheVariants as status
 use Rattle.cm_run.specs.Cause.{ObeyCause}
 use Rattle.cm_run.specs.declared.stop.Stop.{Stop}
 use Rattle.cm_run.specs.declared.stop.Stop.TheVariants as stop
 use Rattle.ex_system.specs.Saving.{IsOr}
-use Rattle.ex_batch.specs.Stands.{Closes, ClosesQuietly, IsWhole, ScreenCause, ShowsEnd, closing, end_status, end_text, status_of}
-use Rattle.ex_batch.specs.Takes.{went}
+use Rattle.ex_batch.specs.RunEnd.{Closes, ClosesQuietly, IsWhole, ScreenCause, ShowsEnd, closing, end_status, end_text, status_of}
+use Rattle.ex_batch.specs.Takes.{step_outcome}
 use Rattle.ex_batch.specs.declared.step.Ended.{Ended}
 use Rattle.ex_batch.specs.declared.step.Ended.TheVariants as ended
 
 -- what each status says of the screen
-pub screen_cause : (how : Result Ended Stop) (before now : Told) (f g h : ℕ) (result : Status) → ObeyCause f g (went how)
+pub screen_cause : (how : Result Ended Stop) (before now : Contents) (f g h : ℕ) (result : Status) → ObeyCause f g (step_outcome how)
     → Closes how before now g h result → ScreenCause f h result
 unfolding ObeyCause
 screen_cause how before now f g h result cause closes = by how cause closes.ends closes.shown
@@ -22,7 +22,7 @@ screen_cause how before now f g h result cause closes = by how cause closes.ends
     says_of : (this : Status) → result ≡ this → ScreenCause f h this → ScreenCause f h result
     says_of this is says = subst (λ (it : Status). ScreenCause f h it) (sym is) says
 
-    by : (how : Result Ended Stop) → ObeyCause f g (went how) → IsOr result (status_of how)
+    by : (how : Result Ended Stop) → ObeyCause f g (step_outcome how) → IsOr result (status_of how)
         → ShowsEnd how before now g h result → ScreenCause f h result
     by how cause (inr is) shown = says_of status.HostFault is tt
     by (Ok ended.Finished) cause (inl is) shown =
@@ -35,7 +35,7 @@ screen_cause how before now f g h result cause closes = by how cause closes.ends
     by (Err stop.Keys) cause (inl is) shown = absurd cause
     by (Err stop.Limit) cause (inl is) shown = absurd cause
 
--- a run that went so comes to one of these
+-- a run that went so ends with one of these
 pub of_status : (P : Status → Type 0) → P status.Done → P status.Stopped → P status.NoMemory → P status.WriteFault
     → P status.HostFault → (how : Result Ended Stop) (result : Status) → IsOr result (status_of how) → P result
 of_status P done stopped memory failed host how result (inr is) = subst P (sym is) host

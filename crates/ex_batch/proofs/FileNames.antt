@@ -14,7 +14,7 @@ use Rattle.cm_files.specs.Fields.{file, file_of, is_file}
 use Rattle.cm_blocks.specs.Words.{no_flags}
 use Rattle.ex_store.specs.declared.place.Place.{Place}
 use Rattle.ex_commands.specs.Line.{place_by}
-use Rattle.ex_commands.specs.Said.{IsSaid}
+use Rattle.ex_commands.specs.NameParts.{IsSaid}
 use Rattle.cm_blocks.proofs.Places.{run_of}
 use Rattle.ex_commands.proofs.ShortParts.{file_said}
 use Rattle.ex_batch.specs.ControlFile.{place_or_shape, place_said}

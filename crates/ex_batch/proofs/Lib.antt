@@ -1,14 +1,14 @@
 mod Courses
 mod Ends
+mod FileNames
 mod HandedLines
 mod Jobs
 mod LawLemmas
 mod LineKeys
-mod FileNames
+mod Outcomes
 mod Rests
 mod Runs
-mod Outcomes
-mod Steps
 mod StepCuts
+mod Steps
 mod TypedLines
 mod TypedRuns

@@ -5,11 +5,11 @@ use Rattle.std.proofs.Common.{◌≡◌, ◌⊎◌, ℕ, ◌+◌, ◌≤◌, Boo
 use Rattle.std.specs.Prelude.{IfOk}
 use Rattle.cm_io.specs.declared.status.Status.{Status}
 use Rattle.cm_io.specs.declared.status.Status.TheVariants as status
-use Rattle.cm_io.specs.Told.{Told}
+use Rattle.cm_io.specs.Contents.{Contents}
 use Rattle.cm_run.specs.Cause.{ObeyCause}
 use Rattle.cm_run.specs.Cut.{Traces}
-use Rattle.cm_run.specs.Event.{screen_bytes, state_behind, trials_of}
-use Rattle.cm_run.specs.Observed.{Between, Performs}
+use Rattle.cm_run.specs.Event.{screen_bytes, state_after, trials_of}
+use Rattle.cm_run.specs.Observation.{Between, Performs}
 use Rattle.cm_run.specs.declared.stop.Stop.{Stop}
 use Rattle.cm_run.specs.declared.stop.Stop.TheVariants as stop
 use Rattle.ex_image.specs.Image.{image_text}
@@ -21,13 +21,13 @@ use Rattle.ex_system.specs.Saving.{HostCause, IsOr, Keeps}
 use Rattle.ex_system.specs.Start.{InputCause, IsEarly, IsLoaded, IsRun, Starts}
 use Rattle.ex_system.specs.Trying.{Tried}
 use Rattle.ex_system.proofs.Starts.{began_cause, early_memory, not_quiet, one_start}
-use Rattle.ex_system.proofs.Trials.{tried_behind}
+use Rattle.ex_system.proofs.Trials.{tried_after}
 use Rattle.ex_take.specs.ExecState.{ExecState, exec_start}
 use Rattle.ex_batch.specs.Batch.{Batch}
 use Rattle.ex_batch.specs.Heads.{Heads}
-use Rattle.cm_text.specs.Shown.{end_of_line}
-use Rattle.ex_batch.specs.Stands.{Course, Follows, IsBatch, IsWhole, JobForm, Past, Scene, ScreenCause, ShowsEnd, Stands, StartCause, closing, end_status, end_text, seen, status_of, usage, with_screen}
-use Rattle.ex_batch.specs.Takes.{went}
+use Rattle.cm_text.specs.ScreenBytes.{end_of_line}
+use Rattle.ex_batch.specs.RunEnd.{Course, Follows, IsBatch, IsWhole, JobForm, Past, Scene, ScreenCause, ShowsEnd, Stands, StartCause, closing, end_status, end_text, seen, status_of, usage, with_screen}
+use Rattle.ex_batch.specs.Takes.{step_outcome}
 use Rattle.ex_batch.specs.Whole.{whole_of}
 use Rattle.ex_batch.specs.declared.step.Ended.{Ended}
 use Rattle.ex_batch.proofs.Ends.{WentWhole, closing_end, of_status, screen_cause, went_whole}
@@ -62,7 +62,7 @@ early_whole (Some name) status.Stopped early whole = early
 early_whole input result early whole = whole
 
 -- before FILE is looked at
-module _ (told : Type 0) (asked : JobForm) (a b : Scene) (before now : Disk) (why result : Status) (same : result ≡ why)
+module _ (known : Type 0) (asked : JobForm) (a b : Scene) (before now : Disk) (why result : Status) (same : result ≡ why)
     (early : IsEarly asked.form.input why) (cause : InputCause before asked.form.input why)
     (host : HostCause before.faults now.faults why)
     (tried : Tried a.screen b.screen a.faults b.faults [] (message why)) (loads : IsLoaded asked.form.input before now)
@@ -80,7 +80,7 @@ module _ (told : Type 0) (asked : JobForm) (a b : Scene) (before now : Disk) (wh
         complete = λ screen disk. inr (early_memory before asked.form.input start before.faults now.faults why early cause starts host disk);
       }
 
-  early_course : Course told asked a b before now why
+  early_course : Course known asked a b before now why
   early_course = record {
     stands = inl (early, record { screen = tried; rest = rest }, loads);
     batch = early_batch asked.form.input why early;
@@ -91,8 +91,8 @@ module _ (told : Type 0) (asked : JobForm) (a b : Scene) (before now : Disk) (wh
     follows = λ tells start starts. early_follows start starts;
   }
 
-  pub course_early : Course told asked a b before now result
-  course_early = subst (λ (it : Status). Course told asked a b before now it) (sym same) early_course
+  pub course_early : Course known asked a b before now result
+  course_early = subst (λ (it : Status). Course known asked a b before now it) (sym same) early_course
 
 keeps_whole : (image : List ℕ) (before now : Option (List ℕ)) (result : Status) → IsWhole result → Keeps image before now result
     → now ≡ Some image
@@ -101,8 +101,8 @@ keeps_whole image before now status.Stopped whole keeps = keeps
 keeps_whole image before now result whole keeps = absurd whole
 
 -- a run that was closed
-module _ (told : Type 0) (asked : JobForm) (a b : Scene) (before now : Disk) (result : Status)
-    (past : Past told asked a b before now result) where
+module _ (known : Type 0) (asked : JobForm) (a b : Scene) (before now : Disk) (result : Status)
+    (past : Past known asked a b before now result) where
   abbrev at : Scene
   at = past.at
 
@@ -122,7 +122,7 @@ module _ (told : Type 0) (asked : JobForm) (a b : Scene) (before now : Disk) (re
   counts = ap (λ (it : Scene). it.trials) past.rest
 
   -- where it is whole
-  module _ (tells : told) (whole : IsWhole result) where
+  module _ (tells : known) (whole : IsWhole result) where
     went_to : WentWhole past.how result
     went_to = went_whole past.how result past.closes.ends whole
 
@@ -131,12 +131,12 @@ module _ (told : Type 0) (asked : JobForm) (a b : Scene) (before now : Disk) (re
 
     all : Between (seen a (exec_start past.start)) (seen at past.left) job.events
     unfolding Traces Performs
-    all = subst (λ (it : Result Ended Stop). Traces (seen a (exec_start past.start)) (seen at past.left) job.events (went it))
+    all = subst (λ (it : Result Ended Stop). Traces (seen a (exec_start past.start)) (seen at past.left) job.events (step_outcome it))
         went_to.how_is (past.ran.traces tells)
 
     stays : at.faults ≡ a.faults
     unfolding ObeyCause
-    stays = subst (λ (it : Result Ended Stop). ObeyCause a.faults at.faults (went it)) went_to.how_is past.ran.cause
+    stays = subst (λ (it : Result Ended Stop). ObeyCause a.faults at.faults (step_outcome it)) went_to.how_is past.ran.cause
 
     whole_status : result ≡ end_status job.end
     whole_status = went_to.status_is ∙ ap (λ (it : Ended). end_status it) ends
@@ -150,32 +150,32 @@ module _ (told : Type 0) (asked : JobForm) (a b : Scene) (before now : Disk) (re
         went_to.how_is past.closes.shown
 
     whole_shown : Tried a.screen b.screen a.faults b.faults (screen_bytes job.events) (end_text job.end)
-    whole_shown = tried_behind a.screen at.screen b.screen a.faults at.faults b.faults (screen_bytes job.events) (end_text job.end)
+    whole_shown = tried_after a.screen at.screen b.screen a.faults at.faults b.faults (screen_bytes job.events) (end_text job.end)
         all.screen stays (subst (λ (it : List ℕ). Tried at.screen b.screen at.faults b.faults [] it) closes_so closes_end)
 
     whole_counted : b.trials ≡ a.trials + trials_of job.events
     whole_counted = counts ∙ all.trials
 
     whole_saved : IsTrue before.tells
-        → now.files asked.form.out ≡ Some (image_text (state_behind (exec_start past.start) job.events).interpreter.state)
+        → now.files asked.form.out ≡ Some (image_text (state_after (exec_start past.start) job.events).interpreter.state)
     whole_saved tell =
         keeps_whole (image_text past.left.interpreter.state) (past.loaded.files asked.form.out) (now.files asked.form.out) result whole
         (past.saves.file (subst (λ (it : Bool). IsTrue it) (sym past.begins.0.tells) tell))
         ∙ ap (λ (it : ExecState). Some (image_text it.interpreter.state)) all.state
 
   -- and however it went
-  most : told → b.trials ≤ a.trials + trials_of job.events
+  most : known → b.trials ≤ a.trials + trials_of job.events
   most tells =
       let few : at.trials ≤ a.trials + trials_of job.events =
-      cut_most (seen a (exec_start past.start)) (seen at past.left) job.events (went past.how) (past.ran.traces tells) in
+      cut_most (seen a (exec_start past.start)) (seen at past.left) job.events (step_outcome past.how) (past.ran.traces tells) in
       omega (arith, few, counts)
 
-  complete : told → IsQuiet a.faults b.faults → IsQuiet before.faults now.faults
+  complete : known → IsQuiet a.faults b.faults → IsQuiet before.faults now.faults
       → (result ≡ end_status job.end) ⊎ (result ≡ status.NoMemory)
   unfolding ObeyCause
   complete tells screen host = by past.how past.ran.cause (past.ran.end tells) past.closes.ends
     where
-      by : (how : Result Ended Stop) → ObeyCause a.faults at.faults (went how) → IfOk how (λ end. end ≡ job.end)
+      by : (how : Result Ended Stop) → ObeyCause a.faults at.faults (step_outcome how) → IfOk how (λ end. end ≡ job.end)
           → IsOr result (status_of how) → (result ≡ end_status job.end) ⊎ (result ≡ status.NoMemory)
       by how cause end (inr is) =
           absurd (not_quiet before.faults now.faults (subst (λ (it : Status). HostCause before.faults now.faults it) is saves) host)
@@ -187,7 +187,7 @@ module _ (told : Type 0) (asked : JobForm) (a b : Scene) (before now : Disk) (re
       by (Err stop.Keys) cause end (inl is) = absurd cause
       by (Err stop.Limit) cause end (inl is) = absurd cause
 
-  follows : told → Follows asked.file asked.form.out past.start a b before now result
+  follows : known → Follows asked.file asked.form.out past.start a b before now result
   follows tells = record {
     ends = whole_status tells;
     shown = whole_shown tells;
@@ -197,7 +197,7 @@ module _ (told : Type 0) (asked : JobForm) (a b : Scene) (before now : Disk) (re
     complete = complete tells;
   }
 
-  pub course_past : Course told asked a b before now result
+  pub course_past : Course known asked a b before now result
   course_past = record {
     stands = inr past;
     batch = of_status IsBatch tt tt tt tt tt past.how result past.closes.ends;
@@ -214,10 +214,10 @@ module _ (told : Type 0) (asked : JobForm) (a b : Scene) (before now : Disk) (re
 one_form : (asked : Option JobForm) (first second : JobForm) → Some first ≡ asked → asked ≡ Some second → first ≡ second
 one_form asked first second is was = cc
 
-pub heads : (told : Type 0) (asked : Option JobForm) (form : JobForm) (a b : Scene) (before now : Disk) (result : Status)
-    → Some form ≡ asked → Course told form a b before now result → Heads told asked a b before now result
-heads told asked form a b before now result is course = record {
-  stands = subst (λ (it : Option JobForm). Stands told it a b before now result) is course.stands;
+pub heads : (known : Type 0) (asked : Option JobForm) (form : JobForm) (a b : Scene) (before now : Disk) (result : Status)
+    → Some form ≡ asked → Course known form a b before now result → Heads known asked a b before now result
+heads known asked form a b before now result is course = record {
+  stands = subst (λ (it : Option JobForm). Stands known it a b before now result) is course.stands;
   batch = course.batch;
   usage = (λ usage. absurd (course.usage usage), λ none. let wrong : Some form ≡ None = is ∙ none in absurd (cc));
   cause = course.cause;
@@ -230,11 +230,11 @@ heads told asked form a b before now result is course = record {
 }
 
 -- and where these are others
-pub heads_usage : (told : Type 0) (asked : Option JobForm) (a b : Scene) (before : Disk) (result : Status) → None ≡ asked
-    → result ≡ status.Usage → Stands told None a b before before result → Heads told asked a b before before result
-heads_usage told asked a b before result none is stands =
-    subst (λ (it : Option JobForm). Heads told it a b before before result) none
-    (subst (λ (it : Status). Stands told None a b before before it → Heads told None a b before before it) (sym is)
+pub heads_usage : (known : Type 0) (asked : Option JobForm) (a b : Scene) (before : Disk) (result : Status) → None ≡ asked
+    → result ≡ status.Usage → Stands known None a b before before result → Heads known asked a b before before result
+heads_usage known asked a b before result none is stands =
+    subst (λ (it : Option JobForm). Heads known it a b before before result) none
+    (subst (λ (it : Status). Stands known None a b before before it → Heads known None a b before before it) (sym is)
     (λ stands. record {
       stands = stands;
       batch = tt;
@@ -245,6 +245,6 @@ heads_usage told asked a b before result none is stands =
       follows = λ tells form start asks. let wrong : None ≡ Some form = asks.0 in absurd (cc);
     }) stands)
 
-pub usage_tried : (before now : Told) (f g : ℕ) (text : List ℕ) → text ≡ usage → Tried before now f g [] (text ++ end_of_line)
+pub usage_tried : (before now : Contents) (f g : ℕ) (text : List ℕ) → text ≡ usage → Tried before now f g [] (text ++ end_of_line)
     → Tried before now f g [] (usage ++ end_of_line)
 usage_tried before now f g text is tried = subst (λ (it : List ℕ). Tried before now f g [] (it ++ end_of_line)) is tried

@@ -8,7 +8,7 @@ use Rattle.cm_io.proofs.Additions.{add_none}
 use Rattle.cm_run.specs.Cause.{ObeyCause}
 use Rattle.cm_run.specs.Cut.{Cut, EndCut, KeyCut, LimitCut, LogCut, MemoryCut, ScreenCut, Traces, event_of, part_of}
 use Rattle.cm_run.specs.Event.{Event, Memory, event_trials, trials_of}
-use Rattle.cm_run.specs.Observed.{Observed, Performs}
+use Rattle.cm_run.specs.Observation.{Observation, Performs}
 use Rattle.cm_run.specs.declared.stop.Stop.{Stop}
 use Rattle.cm_run.specs.declared.stop.Stop.TheVariants as stop
 use Rattle.cm_run.proofs.Joins.{performs_none, traces_both, traces_none}
@@ -18,14 +18,14 @@ use Rattle.ex_store.specs.declared.place.Place.{Place}
 use Rattle.ex_take.specs.ExecState.{ExecState, exec_start}
 use Rattle.ex_batch.specs.Batch.{Batch, batch_of}
 use Rattle.ex_batch.specs.ControlFile.{named_file}
-use Rattle.ex_batch.specs.Stands.{Ran, Scene, seen}
-use Rattle.ex_batch.specs.Takes.{went}
+use Rattle.ex_batch.specs.RunEnd.{Ran, Scene, seen}
+use Rattle.ex_batch.specs.Takes.{step_outcome}
 use Rattle.ex_batch.specs.Whole.{batch_by, whole_of}
 use Rattle.ex_batch.specs.declared.step.Ended.{Ended}
 use Rattle.ex_batch.specs.declared.step.Ended.TheVariants.{Stopped}
 
 -- memory is given
-memory_given : (a : Observed ExecState) → Performs a a (Memory ∷ [])
+memory_given : (a : Observation ExecState) → Performs a a (Memory ∷ [])
 unfolding Performs
 memory_given a = record {
   screen = sym (add_none a.screen);
@@ -37,7 +37,7 @@ memory_given a = record {
   state = refl;
 }
 
-module _ (told : Type 0) (word : List ℕ) (start state : State) (job : ExecState) (begins : job ≡ exec_start start)
+module _ (known : Type 0) (word : List ℕ) (start state : State) (job : ExecState) (begins : job ≡ exec_start start)
     (held : state ≡ job.interpreter.state) where
   here : state ≡ start
   here = held ∙ ap (λ (it : ExecState). it.interpreter.state) begins
@@ -53,7 +53,7 @@ module _ (told : Type 0) (word : List ℕ) (start state : State) (job : ExecStat
   module _ (a : Scene) where
     -- the file is refused
     pub ran_refused : (code : Code) → Err code ≡ named_file (catalogue_of state) word
-        → Ran told word start job (Ok (Stopped code)) a a
+        → Ran known word start job (Ok (Stopped code)) a a
     unfolding ObeyCause
     ran_refused code is =
         let so : whole_of start word a.moments ≡ record { events = []; end = Stopped code } = named (Err code) a.moments is in
@@ -72,8 +72,8 @@ module _ (told : Type 0) (word : List ℕ) (start state : State) (job : ExecStat
       so : whole_of start word a.moments ≡ record { events = Memory ∷ batch.events; end = batch.end }
       so = named (Ok place) a.moments is
 
-      -- memory is wanting for its lines
-      pub ran_short : Ran told word start job (Err stop.Memory) a a
+      -- memory runs out for its lines
+      pub ran_short : Ran known word start job (Err stop.Memory) a a
       unfolding Traces ObeyCause
       ran_short = record {
         traces = λ _. subst (λ (it : Batch). Traces (seen a (exec_start start)) (seen a job) it.events (Err stop.Memory)) (sym so)
@@ -93,10 +93,10 @@ module _ (told : Type 0) (word : List ℕ) (start state : State) (job : ExecStat
       -- the lines are run
       pub ran_lines : (held_lines : List (List ℕ)) (bytes : List ℕ) (left : ExecState) (b : Scene) (how : Result Ended Stop)
           → bytes ≡ bytes_of place state → held_lines ≡ lines bytes
-          → (told → Traces (seen a job) (seen b left) (batch_of held_lines a.moments job).events (went how))
-          → (told → IfOk how (λ end. end ≡ (batch_of held_lines a.moments job).end))
-          → ObeyCause a.faults b.faults (went how)
-          → Ran told word start left how a b
+          → (known → Traces (seen a job) (seen b left) (batch_of held_lines a.moments job).events (step_outcome how))
+          → (known → IfOk how (λ end. end ≡ (batch_of held_lines a.moments job).end))
+          → ObeyCause a.faults b.faults (step_outcome how)
+          → Ran known word start left how a b
       ran_lines held_lines bytes left b how of read traces end cause =
           let same : held_lines ≡ lines (bytes_of place start) =
           read ∙ ap lines of ∙ ap (λ (it : State). lines (bytes_of place it)) here in
@@ -104,10 +104,10 @@ module _ (told : Type 0) (word : List ℕ) (start state : State) (job : ExecStat
           ap (λ (it : List (List ℕ)). batch_of it a.moments job) same
           ∙ ap (λ (it : ExecState). batch_of (lines (bytes_of place start)) a.moments it) begins in
           record {
-            traces = λ tells. subst (λ (it : Batch). Traces (seen a (exec_start start)) (seen b left) it.events (went how)) (sym so)
-                (traces_both (seen a (exec_start start)) (seen a (exec_start start)) (seen b left) (Memory ∷ []) batch.events (went how)
-                (subst (λ (it : Batch). Traces (seen a (exec_start start)) (seen b left) it.events (went how)) run
-                (subst (λ (it : ExecState). Traces (seen a it) (seen b left) (batch_of held_lines a.moments job).events (went how)) begins
+            traces = λ tells. subst (λ (it : Batch). Traces (seen a (exec_start start)) (seen b left) it.events (step_outcome how)) (sym so)
+                (traces_both (seen a (exec_start start)) (seen a (exec_start start)) (seen b left) (Memory ∷ []) batch.events (step_outcome how)
+                (subst (λ (it : Batch). Traces (seen a (exec_start start)) (seen b left) it.events (step_outcome how)) run
+                (subst (λ (it : ExecState). Traces (seen a it) (seen b left) (batch_of held_lines a.moments job).events (step_outcome how)) begins
                 (traces tells)))
                 (memory_given (seen a (exec_start start))));
             end = λ tells. subst (λ (it : Batch). IfOk how (λ end. end ≡ it.end)) (sym so)
@@ -124,7 +124,7 @@ none_cost EndCut = refl
 none_cost MemoryCut = refl
 none_cost LimitCut = refl
 
-pub cut_most : (a b : Observed ExecState) (events : List (Event ExecState)) (result : Result Unit Stop) → Traces a b events result
+pub cut_most : (a b : Observation ExecState) (events : List (Event ExecState)) (result : Result Unit Stop) → Traces a b events result
     → b.trials ≤ a.trials + trials_of events
 unfolding Traces Performs
 cut_most a b events (Ok value) traces = let all : b.trials ≡ a.trials + trials_of events = traces.trials in omega (arith, all)

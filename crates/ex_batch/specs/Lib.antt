@@ -1,10 +1,10 @@
-pub mod Request
 pub mod Batch
+pub mod ControlFile
 pub mod Heads
 pub mod Job
-pub mod ControlFile
-pub mod Stands
-pub mod Takes
-pub mod Typed
 pub mod LineCount
+pub mod Request
+pub mod RunEnd
+pub mod Takes
+pub mod TypedRuns
 pub mod Whole

@@ -1,6 +1,6 @@
 -- The lines that a run uses.
 use Rattle.std.specs.Prelude.{ℕ, zero, suc, List, [], ◌∷◌, ◌++◌, slice_get, Option, None, Some}
-use Rattle.cm_run.specs.Event.{moments_behind, state_behind}
+use Rattle.cm_run.specs.Event.{moments_after, state_after}
 use Rattle.ex_take.specs.ExecState.{ExecState}
 use Rattle.ex_batch.specs.Batch.{line_step}
 use Rattle.ex_batch.specs.declared.batch.TheConstants.{CONTROL_LINES}
@@ -19,7 +19,7 @@ used_from lines zero moments at (Line place) = []
 used_from lines (suc more) moments at (Line place) =
     let step = line_step lines place moments at (slice_get lines place) in
     used_at place (slice_get lines place)
-    ++ used_from lines more (moments_behind moments step.events) (state_behind at step.events) step.next
+    ++ used_from lines more (moments_after moments step.events) (state_after at step.events) step.next
 
 abbrev pub used_in : List (List ℕ) → List ℕ → ExecState → List ℕ
 used_in lines moments at = used_from lines CONTROL_LINES moments at (Line 0)

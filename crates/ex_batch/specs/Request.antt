@@ -1,6 +1,6 @@
 -- What the words ask for, as the program holds it: texts that are lent.
-use Rattle.ex_system.specs.Asked.{form_view}
-use Rattle.ex_batch.specs.Stands.{JobForm}
+use Rattle.ex_system.specs.WordViews.{form_view}
+use Rattle.ex_batch.specs.RunEnd.{JobForm}
 use Rattle.ex_batch.specs.declared.program.JobForm as asked
 
 abbrev pub job_view : asked.JobForm → JobForm

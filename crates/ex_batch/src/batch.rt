@@ -1,12 +1,12 @@
 // The run over the lines of a control file.
 ghost use Rattle.std.specs.Prelude.{◌≡◌, ◌≤◌, ℕ, List, IsTrue, IfOk, slice_get};
-ghost use Rattle.cm_io.specs.Told.{Told};
+ghost use Rattle.cm_io.specs.Contents.{Contents};
 ghost use Rattle.cm_run.specs.Cause.{ObeyCause};
 ghost use Rattle.cm_run.specs.Cut.{Traces};
-ghost use Rattle.cm_run.specs.Observed.{observed};
+ghost use Rattle.cm_run.specs.Observation.{observation};
 ghost use Rattle.ex_batch.specs.Batch.{batch_of, limit_end};
-ghost use Rattle.ex_batch.specs.Job.{job_meaning};
-ghost use Rattle.ex_batch.specs.Takes.{went};
+ghost use Rattle.ex_batch.specs.Job.{job_semantics};
+ghost use Rattle.ex_batch.specs.Takes.{step_outcome};
 
 use crate::job::Job;
 use crate::step::{Ended, Next, take_control};
@@ -41,17 +41,17 @@ pub fn run_batch<S: Sink, C: Clock, L: Ledger>(
     clock: &mut C,
     steps: &mut Steps<L>,
 ) -> Result<Ended, Stop>
-    requires grammar { grammar.now ≡ job_meaning.graph }
-    // What stands is the trace of the run, or a cut of it.
-    ensures traces { IsTrue C.tells → (log : Told) → (keys : List ℕ) → (gets : ℕ) → Traces
-        (observed (S.told screen.old) log keys gets (C.left clock.old) steps.old job.old)
-        (observed (S.told screen.new) log keys gets (C.left clock.new) steps.new job.new)
-        (batch_of file.now (C.left clock.old) job.old).events (went result) }
+    requires grammar { grammar.now ≡ job_semantics.graph }
+    // [batch-line] What stands is the trace of the run, or a cut of it.
+    ensures traces { IsTrue C.tells → (log : Contents) → (keys : List ℕ) → (gets : ℕ) → Traces
+        (observation (S.contents screen.old) log keys gets (C.left clock.old) steps.old job.old)
+        (observation (S.contents screen.new) log keys gets (C.left clock.new) steps.new job.new)
+        (batch_of file.now (C.left clock.old) job.old).events (step_outcome result) }
     // Where it was not cut, it ends as the run does.
     ensures end { IsTrue C.tells
         → IfOk result (λ end. end ≡ (batch_of file.now (C.left clock.old) job.old).end) }
     ensures later { S.faults screen.old ≤ S.faults screen.new }
-    ensures cause { ObeyCause (S.faults screen.old) (S.faults screen.new) (went result) }
+    ensures cause { ObeyCause (S.faults screen.old) (S.faults screen.new) (step_outcome result) }
 {
     let mut place = 0;
     for _line in 0..CONTROL_LINES {

@@ -1,12 +1,12 @@
 // The end of a run of a control file.
 ghost use Rattle.std.specs.Prelude.{◌≡◌, ◌≤◌, []};
 ghost use Rattle.cm_io.specs.Fault.{PutCause};
-ghost use Rattle.cm_io.specs.Told.{Adds};
+ghost use Rattle.cm_io.specs.Contents.{Adds};
 ghost use Rattle.cm_state.specs.Echo.{refusal};
 ghost use Rattle.ex_system.specs.Disk.{disk_of};
 ghost use Rattle.ex_system.specs.Saving.{IsEnd, Saves};
 ghost use Rattle.ex_system.specs.Trying.{Tried};
-ghost use Rattle.ex_batch.specs.Stands.{Closes, status_of, stop_of};
+ghost use Rattle.ex_batch.specs.RunEnd.{Closes, status_of, stop_of};
 
 use crate::step::Ended;
 use cm_fields::Code;
@@ -41,24 +41,24 @@ fn stop_of(how: Result<Ended, Stop>, status: Status) -> Option<Code>
 
 // Puts why a run was stopped.
 fn put_stop<S: Sink>(code: Code, screen: &mut S) -> Put
-    ensures bytes { Adds (S.told screen.old) (S.told screen.new) (refusal code) result }
+    ensures bytes { Adds (S.contents screen.old) (S.contents screen.new) (refusal code) result }
     ensures cause { PutCause (S.faults screen.old) (S.faults screen.new) result }
 {
     let mut out = Writer::new(screen);
     put_refusal(code, &mut out);
-    out.went()
+    out.outcome()
 }
 
 // Shows why a run was stopped. A screen that fails here changes nothing.
 fn show_stop<S: Sink>(code: Code, screen: &mut S)
-    ensures { Tried (S.told screen.old) (S.told screen.new)
+    ensures { Tried (S.contents screen.old) (S.contents screen.new)
         (S.faults screen.old) (S.faults screen.new) [] (refusal code) }
 {
     put_stop(code, screen);
 }
 
-/// Ends a run that went so: writes the image, and shows behind it why the run was stopped, or the message of the status
-/// that it comes to. A screen that has failed is given nothing more.
+/// Ends a run that went so: writes the image, and shows after it why the run was stopped, or the message of the status
+/// that it ends with. A screen that has failed is given nothing more.
 pub(crate) fn close<H: Host, S: Sink>(
     how: Result<Ended, Stop>,
     store: &Store,
@@ -66,7 +66,7 @@ pub(crate) fn close<H: Host, S: Sink>(
     host: &mut H,
     screen: &mut S,
 ) -> Status
-    ensures closes { Closes how (S.told screen.old) (S.told screen.new)
+    ensures closes { Closes how (S.contents screen.old) (S.contents screen.new)
         (S.faults screen.old) (S.faults screen.new) result }
     ensures saved { Saves (disk_of H.Host host.old) (disk_of H.Host host.new) out.now store.now.state result }
 {

@@ -4,7 +4,7 @@ ghost use Rattle.cm_blocks.specs.Parse.{IsParse};
 ghost use Rattle.cm_blocks.specs.Setting.{setting};
 ghost use Rattle.cm_blocks.specs.declared.field.Ending.TheVariants as ending;
 ghost use Rattle.cm_run.specs.Cause.{ObeyCause};
-ghost use Rattle.cm_run.specs.Meaning.{IsLineAt};
+ghost use Rattle.cm_run.specs.Semantics.{IsLineAt};
 ghost use Rattle.cm_run.specs.Obey.{Obeys, stage};
 ghost use Rattle.cm_state.specs.SessionState.{text_of};
 ghost use Rattle.ex_grammar.specs.ExecRules.{exec_meanings};
@@ -13,7 +13,7 @@ ghost use Rattle.ex_store.specs.State.{catalogue_of};
 ghost use Rattle.ex_take.specs.Exec.{refuses};
 ghost use Rattle.ex_take.specs.ExecState.{exec_start, forgiven};
 ghost use Rattle.ex_take.specs.Interpreter.{command_at, mode_of};
-ghost use Rattle.ex_batch.specs.Job.{bar_of, job_deeds, order_deeds};
+ghost use Rattle.ex_batch.specs.Job.{bar_of, job_effects, order_effects};
 
 use cm_blocks::{Ending, Grammar};
 use cm_fields::Code;
@@ -92,6 +92,7 @@ impl Job {
 
     /// Forgets why the last line was refused.
     pub fn forgive(&mut self)
+        // [error-flag]
         ensures { self.new ≡ forgiven self.old }
     {
         self.exec.forgive();
@@ -99,7 +100,7 @@ impl Job {
 
     /// Refuses a line: shows why.
     pub fn refuse_line<S: Sink>(&mut self, code: Code, screen: &mut S) -> Result<(), Stop>
-        ensures obeys { Obeys (stage (S.told screen.old) self.old) (stage (S.told screen.new) self.new)
+        ensures obeys { Obeys (stage (S.contents screen.old) self.old) (stage (S.contents screen.new) self.new)
             (refuses code self.old ∷ []) result }
         ensures later { S.faults screen.old ≤ S.faults screen.new }
         ensures cause { ObeyCause (S.faults screen.old) (S.faults screen.new) result }
@@ -120,8 +121,8 @@ impl Job {
         requires parse { IsParse (setting exec_graph (catalogue_of self.old.interpreter.state) exec_meanings)
             session.now.node (text_of session.now) session.now.fields ending.Done }
         requires free { self.old.interpreter.pending ≡ None }
-        ensures obeys { Obeys (stage (S.told screen.old) self.old) (stage (S.told screen.new) self.new)
-            (job_deeds self.old moment (command_at self.old.interpreter session.now)) result }
+        ensures obeys { Obeys (stage (S.contents screen.old) self.old) (stage (S.contents screen.new) self.new)
+            (job_effects self.old moment (command_at self.old.interpreter session.now)) result }
         ensures later { S.faults screen.old ≤ S.faults screen.new }
         ensures cause { ObeyCause (S.faults screen.old) (S.faults screen.new) result }
     {
@@ -132,7 +133,7 @@ impl Job {
         }
     }
 
-    // Does what a line of the control file comes to.
+    // Does what a line of the control file says.
     #[tactic(auto, unfolding(cm_run::specs::Cause::ObeyCause))]
     fn take_order<S: Sink>(
         &mut self,
@@ -146,8 +147,8 @@ impl Job {
         requires parse { IsParse (setting exec_graph (catalogue_of self.old.interpreter.state) exec_meanings)
             session.now.node (text_of session.now) session.now.fields session.now.ending }
         requires free { self.old.interpreter.pending ≡ None }
-        ensures obeys { Obeys (stage (S.told screen.old) self.old) (stage (S.told screen.new) self.new)
-            (order_deeds self.old session.now moment session.now.ending) result }
+        ensures obeys { Obeys (stage (S.contents screen.old) self.old) (stage (S.contents screen.new) self.new)
+            (order_effects self.old session.now moment session.now.ending) result }
         ensures later { S.faults screen.old ≤ S.faults screen.new }
         ensures cause { ObeyCause (S.faults screen.old) (S.faults screen.new) result }
     {
@@ -160,13 +161,13 @@ impl Job {
 }
 
 impl Application for Job {
-    ghost use Rattle.ex_batch.specs.Job.{job_meaning};
+    ghost use Rattle.ex_batch.specs.Job.{job_semantics};
 
     type Rules = ExecRules;
 
     type Names = Store;
 
-    ghost means = { job_meaning };
+    ghost means = { job_semantics };
 
     fn names(&self) -> &Store {
         self.exec.names()

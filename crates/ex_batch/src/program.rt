@@ -1,19 +1,19 @@
 // The program over what is outside of it.
 ghost use Rattle.std.specs.Prelude.{◌≡◌, ◌⊎◌, ◌≤◌, ◌<◌, ◌↔◌, ◌+◌, None, Some, IsTrue};
 ghost use Rattle.std.specs.Option.{option_map};
-ghost use Rattle.cm_run.specs.Event.{screen_bytes, state_behind, trials_of};
+ghost use Rattle.cm_run.specs.Event.{screen_bytes, state_after, trials_of};
 ghost use Rattle.ex_image.specs.Image.{image_text};
 ghost use Rattle.ex_store.specs.State.{State};
 ghost use Rattle.ex_take.specs.ExecState.{exec_start};
-ghost use Rattle.ex_system.specs.Asked.{form_view};
+ghost use Rattle.ex_system.specs.WordViews.{form_view};
 ghost use Rattle.ex_system.specs.Disk.{disk_of};
 ghost use Rattle.ex_system.specs.Quiet.{IsQuiet};
 ghost use Rattle.ex_system.specs.Saving.{HostCause};
 ghost use Rattle.ex_system.specs.Trying.{Tried};
 ghost use Rattle.ex_batch.specs.Request.{job_view};
 ghost use Rattle.ex_batch.specs.Heads.{Heads};
-ghost use Rattle.ex_batch.specs.Job.{job_meaning};
-ghost use Rattle.ex_batch.specs.Stands.{Asks, Course, IsBatch, IsWhole, JobForm as Asked, Ran, ScreenCause, Stands, StartCause, end_status, end_text, form_of, scene, usage, with_file};
+ghost use Rattle.ex_batch.specs.Job.{job_semantics};
+ghost use Rattle.ex_batch.specs.RunEnd.{Asks, Course, IsBatch, IsWhole, JobForm as Asked, Ran, ScreenCause, Stands, StartCause, end_status, end_text, form_of, scene, usage, with_file};
 ghost use Rattle.ex_batch.specs.Whole.{whole_of};
 
 use crate::batch::run_batch;
@@ -56,7 +56,7 @@ fn with_file<'a>(file: &'a str, form: Option<Form<'a>>) -> Option<JobForm<'a>>
 }
 
 // What the words ask for.
-#[tactic(auto, unfolding(crate::specs::Stands::form_of))]
+#[tactic(auto, unfolding(crate::specs::RunEnd::form_of))]
 fn form_of(words: &Words) -> Option<JobForm<'_>>
     ensures { option_map job_view result ≡ form_of words.now }
 {
@@ -67,7 +67,7 @@ fn form_of(words: &Words) -> Option<JobForm<'_>>
 }
 
 // What is shown where the words ask for nothing that the program does.
-#[tactic(auto, unfolding(crate::specs::Stands::usage))]
+#[tactic(auto, unfolding(crate::specs::RunEnd::usage))]
 fn usage() -> &'static str
     ensures { result.now ≡ usage }
 {
@@ -84,7 +84,7 @@ fn run_file<S: Sink, C: Clock, L: Ledger>(
     clock: &mut C,
     steps: &mut Steps<L>,
 ) -> Result<Ended, Stop>
-    requires grammar { grammar.now ≡ job_meaning.graph }
+    requires grammar { grammar.now ≡ job_semantics.graph }
     ensures { (start : State) → job.old ≡ exec_start start → Ran (IsTrue C.tells) file.now start job.new result
         (scene S.Sink screen.old C.Clock clock.old steps.old) (scene S.Sink screen.new C.Clock clock.new steps.new) }
 {
@@ -156,7 +156,7 @@ fn run_words<H: Host, S: Sink, C: Clock, L: Ledger>(
 ///
 /// `words` are `IN OUT FILE`. The run begins from the image in the file IN of `host`. FILE names a file of that image,
 /// as an EXEC command names one that is to be read; its lines are shown on `screen` and done one after the other, each
-/// line of the EXEC's at a moment of `clock`, and the image is then written to the file OUT. Behind the save stands why
+/// line of the EXEC's at a moment of `clock`, and the image is then written to the file OUT. After the save stands why
 /// the run was stopped, or the message of the status.
 ///
 /// `steps` counts the trials.
@@ -173,11 +173,11 @@ pub fn batch20<H: Host, S: Sink, C: Clock, L: Ledger>(
     ensures whole { IsTrue C.tells → IsWhole result → (asked : Asked) → (start : State)
         → Asks (form_of words.now) (disk_of H.Host host.old) asked start
         → result ≡ end_status (whole_of start asked.file (C.left clock.old)).end }
-    // .. the screen was given all that the run shows, and behind it why it was stopped, or a prefix of that where the
+    // .. the screen was given all that the run shows, and after it why it was stopped, or a prefix of that where the
     // screen fails there ..
     ensures shown { IsTrue C.tells → IsWhole result → (asked : Asked) → (start : State)
         → Asks (form_of words.now) (disk_of H.Host host.old) asked start
-        → Tried (S.told screen.old) (S.told screen.new) (S.faults screen.old) (S.faults screen.new)
+        → Tried (S.contents screen.old) (S.contents screen.new) (S.faults screen.old) (S.faults screen.new)
         (screen_bytes (whole_of start asked.file (C.left clock.old)).events)
         (end_text (whole_of start asked.file (C.left clock.old)).end) }
     // .. the counter has risen by what the trials of all lines cost ..
@@ -187,13 +187,13 @@ pub fn batch20<H: Host, S: Sink, C: Clock, L: Ledger>(
     // .. and OUT holds the image of the state that the lines leave.
     ensures saved { IsTrue C.tells → IsTrue H.tells → IsWhole result → (asked : Asked) → (start : State)
         → Asks (form_of words.now) (disk_of H.Host host.old) asked start
-        → H.files host.new asked.form.out ≡ Some (image_text (state_behind (exec_start start)
+        → H.files host.new asked.form.out ≡ Some (image_text (state_after (exec_start start)
         (whole_of start asked.file (C.left clock.old)).events).interpreter.state) }
 
     // What stands, whatever the status. Before FILE is looked at the message alone is shown, IN is loaded once, and OUT
     // is not created. Past that the trace of the whole run stands, or a cut of it: what was shown, counted and left is
     // exact there. Then OUT is created once, is closed, and holds the image of the state that the run left, and no
-    // other file changes; and behind that is shown how it went. So memory is wanting before any line is shown, or at an
+    // other file changes; and after that is shown how it went. So memory runs out before any line is shown, or at an
     // act that may want it, where the acts before it have been done, and no other.
     ensures stands { Stands (IsTrue C.tells) (form_of words.now)
         (scene S.Sink screen.old C.Clock clock.old steps.old) (scene S.Sink screen.new C.Clock clock.new steps.new)
@@ -213,7 +213,7 @@ pub fn batch20<H: Host, S: Sink, C: Clock, L: Ledger>(
     ensures start { StartCause (disk_of H.Host host.old) (form_of words.now) result }
 
     // With words of a form, an image in IN, and nothing outside that fails, the status is Stopped where FILE is refused
-    // or the run is stopped at a line, and else Done; or memory is wanting.
+    // or the run is stopped at a line, and else Done; or memory runs out.
     ensures complete { IsTrue C.tells → (asked : Asked) → (start : State)
         → Asks (form_of words.now) (disk_of H.Host host.old) asked start
         → IsQuiet (S.faults screen.old) (S.faults screen.new) → IsQuiet (H.faults host.old) (H.faults host.new)

@@ -1,15 +1,15 @@
-// What one line of a control file comes to.
+// The outcome of one line of a control file.
 ghost use Rattle.std.specs.Prelude.{◌≡◌, ◌≤◌, ◌<◌, ◌+◌, ◌^◌, ℕ, List, IsTrue, Some, slice_get};
 ghost use Rattle.cm_io.specs.Clock.{next_moment};
-ghost use Rattle.cm_io.specs.Told.{Told};
+ghost use Rattle.cm_io.specs.Contents.{Contents};
 ghost use Rattle.cm_run.specs.Cause.{ObeyCause};
 ghost use Rattle.cm_run.specs.Cut.{Traces};
 ghost use Rattle.cm_run.specs.Event.{Moment};
-ghost use Rattle.cm_run.specs.Observed.{observed};
+ghost use Rattle.cm_run.specs.Observation.{observation};
 ghost use Rattle.ex_control.specs.Control.{AreNamed, IsNamed, control_view, order_view};
-ghost use Rattle.ex_batch.specs.Batch.{behind_event, behind_text, condition_step, control_step, is_met, label_next, line_step, nothing_but, order_step, text_step, text_trace, unless_refused};
-ghost use Rattle.ex_batch.specs.Job.{job_meaning};
-ghost use Rattle.ex_batch.specs.Takes.{Takes, went};
+ghost use Rattle.ex_batch.specs.Batch.{after_event, after_text, condition_step, control_step, is_met, label_next, line_step, nothing_but, order_step, text_step, text_trace, unless_refused};
+ghost use Rattle.ex_batch.specs.Job.{job_semantics};
+ghost use Rattle.ex_batch.specs.Takes.{Takes, step_outcome};
 
 use crate::job::Job;
 use crate::line_bytes::show_line;
@@ -48,10 +48,10 @@ fn take_text<S: Sink, L: Ledger>(
     screen: &mut S,
     steps: &mut Steps<L>,
 ) -> Result<(), Stop>
-    requires grammar { grammar.now ≡ job_meaning.graph }
-    ensures traces { (log : Told) → (keys : List ℕ) → (gets : ℕ) → (moments : List ℕ) → Traces
-        (observed (S.told screen.old) log keys gets moments steps.old job.old)
-        (observed (S.told screen.new) log keys gets moments steps.new job.new)
+    requires grammar { grammar.now ≡ job_semantics.graph }
+    ensures traces { (log : Contents) → (keys : List ℕ) → (gets : ℕ) → (moments : List ℕ) → Traces
+        (observation (S.contents screen.old) log keys gets moments steps.old job.old)
+        (observation (S.contents screen.new) log keys gets moments steps.new job.new)
         (text_trace moment job.old text.now) result }
     ensures later { S.faults screen.old ≤ S.faults screen.new }
     ensures cause { ObeyCause (S.faults screen.old) (S.faults screen.new) result }
@@ -62,10 +62,10 @@ fn take_text<S: Sink, L: Ledger>(
     }
 }
 
-// Where the run goes on behind a line of the EXEC's.
-fn behind_text(place: usize, job: &Job) -> Next
+// Where the run goes on after a line of the EXEC's.
+fn after_text(place: usize, job: &Job) -> Next
     requires { place + 1 < 2 ^ 64 }
-    ensures { result ≡ behind_text place job.now }
+    ensures { result ≡ after_text place job.now }
 {
     if job.has_ended() {
         Next::Over(Ended::Finished)
@@ -84,18 +84,18 @@ fn do_text<S: Sink, C: Clock, L: Ledger>(
     clock: &mut C,
     steps: &mut Steps<L>,
 ) -> Result<Next, Stop>
-    requires grammar { grammar.now ≡ job_meaning.graph }
+    requires grammar { grammar.now ≡ job_semantics.graph }
     requires within { place + 1 < 2 ^ 64 }
-    ensures takes { IsTrue C.tells → (log : Told) → (keys : List ℕ) → (gets : ℕ) → Takes
-        (observed (S.told screen.old) log keys gets (C.left clock.old) steps.old job.old)
-        (observed (S.told screen.new) log keys gets (C.left clock.new) steps.new job.new)
-        (behind_event Moment (text_step place (next_moment (C.left clock.old)) job.old text.now)) result }
+    ensures takes { IsTrue C.tells → (log : Contents) → (keys : List ℕ) → (gets : ℕ) → Takes
+        (observation (S.contents screen.old) log keys gets (C.left clock.old) steps.old job.old)
+        (observation (S.contents screen.new) log keys gets (C.left clock.new) steps.new job.new)
+        (after_event Moment (text_step place (next_moment (C.left clock.old)) job.old text.now)) result }
     ensures later { S.faults screen.old ≤ S.faults screen.new }
-    ensures cause { ObeyCause (S.faults screen.old) (S.faults screen.new) (went result) }
+    ensures cause { ObeyCause (S.faults screen.old) (S.faults screen.new) (step_outcome result) }
 {
     let moment = clock.now();
     match take_text(text, job, grammar, moment, screen, steps) {
-        Ok(()) => Ok(behind_text(place, job)),
+        Ok(()) => Ok(after_text(place, job)),
         Err(stop) => Err(stop),
     }
 }
@@ -122,15 +122,15 @@ fn do_order<S: Sink, C: Clock, L: Ledger>(
     clock: &mut C,
     steps: &mut Steps<L>,
 ) -> Result<Next, Stop>
-    requires grammar { grammar.now ≡ job_meaning.graph }
+    requires grammar { grammar.now ≡ job_semantics.graph }
     requires within { place + 1 < 2 ^ 64 }
     requires named { IsNamed (order_view order) }
-    ensures takes { IsTrue C.tells → (log : Told) → (keys : List ℕ) → (gets : ℕ) → Takes
-        (observed (S.told screen.old) log keys gets (C.left clock.old) steps.old job.old)
-        (observed (S.told screen.new) log keys gets (C.left clock.new) steps.new job.new)
+    ensures takes { IsTrue C.tells → (log : Contents) → (keys : List ℕ) → (gets : ℕ) → Takes
+        (observation (S.contents screen.old) log keys gets (C.left clock.old) steps.old job.old)
+        (observation (S.contents screen.new) log keys gets (C.left clock.new) steps.new job.new)
         (order_step file.now place (C.left clock.old) job.old (order_view order.entry)) result }
     ensures later { S.faults screen.old ≤ S.faults screen.new }
-    ensures cause { ObeyCause (S.faults screen.old) (S.faults screen.new) (went result) }
+    ensures cause { ObeyCause (S.faults screen.old) (S.faults screen.new) (step_outcome result) }
 {
     match order {
         Order::Goto(name) => Ok(label_next(file.place(name))),
@@ -159,15 +159,15 @@ fn do_condition<S: Sink, C: Clock, L: Ledger>(
     clock: &mut C,
     steps: &mut Steps<L>,
 ) -> Result<Next, Stop>
-    requires grammar { grammar.now ≡ job_meaning.graph }
+    requires grammar { grammar.now ≡ job_semantics.graph }
     requires within { place + 1 < 2 ^ 64 }
     requires named { IsNamed (order_view order) }
-    ensures takes { IsTrue C.tells → (log : Told) → (keys : List ℕ) → (gets : ℕ) → Takes
-        (observed (S.told screen.old) log keys gets (C.left clock.old) steps.old job.old)
-        (observed (S.told screen.new) log keys gets (C.left clock.new) steps.new job.new)
+    ensures takes { IsTrue C.tells → (log : Contents) → (keys : List ℕ) → (gets : ℕ) → Takes
+        (observation (S.contents screen.old) log keys gets (C.left clock.old) steps.old job.old)
+        (observation (S.contents screen.new) log keys gets (C.left clock.new) steps.new job.new)
         (condition_step file.now place (C.left clock.old) job.old met (order_view order.entry)) result }
     ensures later { S.faults screen.old ≤ S.faults screen.new }
-    ensures cause { ObeyCause (S.faults screen.old) (S.faults screen.new) (went result) }
+    ensures cause { ObeyCause (S.faults screen.old) (S.faults screen.new) (step_outcome result) }
 {
     job.forgive();
     if met {
@@ -189,16 +189,16 @@ fn do_unless_refused<S: Sink, C: Clock, L: Ledger>(
     clock: &mut C,
     steps: &mut Steps<L>,
 ) -> Result<Next, Stop>
-    requires grammar { grammar.now ≡ job_meaning.graph }
+    requires grammar { grammar.now ≡ job_semantics.graph }
     requires within { place + 1 < 2 ^ 64 }
     requires named { IsNamed (order_view order) }
-    ensures takes { IsTrue C.tells → (log : Told) → (keys : List ℕ) → (gets : ℕ) → Takes
-        (observed (S.told screen.old) log keys gets (C.left clock.old) steps.old job.old)
-        (observed (S.told screen.new) log keys gets (C.left clock.new) steps.new job.new)
+    ensures takes { IsTrue C.tells → (log : Contents) → (keys : List ℕ) → (gets : ℕ) → Takes
+        (observation (S.contents screen.old) log keys gets (C.left clock.old) steps.old job.old)
+        (observation (S.contents screen.new) log keys gets (C.left clock.new) steps.new job.new)
         (unless_refused job.old.stop (order_step file.now place (C.left clock.old) job.old (order_view order.entry)))
         result }
     ensures later { S.faults screen.old ≤ S.faults screen.new }
-    ensures cause { ObeyCause (S.faults screen.old) (S.faults screen.new) (went result) }
+    ensures cause { ObeyCause (S.faults screen.old) (S.faults screen.new) (step_outcome result) }
 {
     match job.stop() {
         Some(code) => Ok(Next::Over(Ended::Stopped(code))),
@@ -206,8 +206,8 @@ fn do_unless_refused<S: Sink, C: Clock, L: Ledger>(
     }
 }
 
-// Where the run goes on behind a label.
-fn behind_label(place: usize, job: &Job) -> Next
+// Where the run goes on after a label.
+fn after_label(place: usize, job: &Job) -> Next
     requires { place + 1 < 2 ^ 64 }
     ensures { result ≡ (unless_refused job.now.stop (nothing_but (Next.Line (place + 1)))).next }
 {
@@ -229,15 +229,15 @@ fn do_control<S: Sink, C: Clock, L: Ledger>(
     clock: &mut C,
     steps: &mut Steps<L>,
 ) -> Result<Next, Stop>
-    requires grammar { grammar.now ≡ job_meaning.graph }
+    requires grammar { grammar.now ≡ job_semantics.graph }
     requires within { place + 1 < 2 ^ 64 }
     requires named { AreNamed (control_view control) }
-    ensures takes { IsTrue C.tells → (log : Told) → (keys : List ℕ) → (gets : ℕ) → Takes
-        (observed (S.told screen.old) log keys gets (C.left clock.old) steps.old job.old)
-        (observed (S.told screen.new) log keys gets (C.left clock.new) steps.new job.new)
+    ensures takes { IsTrue C.tells → (log : Contents) → (keys : List ℕ) → (gets : ℕ) → Takes
+        (observation (S.contents screen.old) log keys gets (C.left clock.old) steps.old job.old)
+        (observation (S.contents screen.new) log keys gets (C.left clock.new) steps.new job.new)
         (control_step file.now place (C.left clock.old) job.old (control_view control.entry)) result }
     ensures later { S.faults screen.old ≤ S.faults screen.new }
-    ensures cause { ObeyCause (S.faults screen.old) (S.faults screen.new) (went result) }
+    ensures cause { ObeyCause (S.faults screen.old) (S.faults screen.new) (step_outcome result) }
 {
     match control {
         Control::Nothing => Ok(Next::Line(place + 1)),
@@ -252,7 +252,7 @@ fn do_control<S: Sink, C: Clock, L: Ledger>(
             clock,
             steps,
         ),
-        Control::Label(_) => Ok(behind_label(place, job)),
+        Control::Label(_) => Ok(after_label(place, job)),
         Control::Plain(order) => do_unless_refused(
             file, place, order, job, grammar, screen, clock, steps,
         ),
@@ -270,13 +270,13 @@ pub(crate) fn take_control<S: Sink, C: Clock, L: Ledger>(
     clock: &mut C,
     steps: &mut Steps<L>,
 ) -> Result<Next, Stop>
-    requires grammar { grammar.now ≡ job_meaning.graph }
-    ensures takes { IsTrue C.tells → (log : Told) → (keys : List ℕ) → (gets : ℕ) → Takes
-        (observed (S.told screen.old) log keys gets (C.left clock.old) steps.old job.old)
-        (observed (S.told screen.new) log keys gets (C.left clock.new) steps.new job.new)
+    requires grammar { grammar.now ≡ job_semantics.graph }
+    ensures takes { IsTrue C.tells → (log : Contents) → (keys : List ℕ) → (gets : ℕ) → Takes
+        (observation (S.contents screen.old) log keys gets (C.left clock.old) steps.old job.old)
+        (observation (S.contents screen.new) log keys gets (C.left clock.new) steps.new job.new)
         (line_step file.now place (C.left clock.old) job.old (slice_get file.now place)) result }
     ensures later { S.faults screen.old ≤ S.faults screen.new }
-    ensures cause { ObeyCause (S.faults screen.old) (S.faults screen.new) (went result) }
+    ensures cause { ObeyCause (S.faults screen.old) (S.faults screen.new) (step_outcome result) }
 {
     let Some(line) = file.line(place) else {
         return Ok(Next::Over(Ended::Finished));

@@ -2,7 +2,7 @@
 //
 // A case is a paragraph of lines, each a name and what is said, in the notation of `push_said`; lines of one name are
 // joined. The run is given `words` with commas between them, over the image IN, which has the file JOB.CTL.1 with the
-// bytes `job`, the records `before` in front of it, and those `behind` it; or IN is what `in` says, or is not there
+// bytes `job`, the records `before` in front of it, and those `after` it; or IN is what `in` says, or is not there
 // where that is `none`. The call of the host with the number `call` fails; the screen and the file OUT have so much
 // room as `room` and `file-room` say. At the end `screen` is what was put there, `status` the status, `moments` how
 // many moments were taken, and `out` what the file OUT is: `same` as IN, or `none` where there is none, with `..`
@@ -24,7 +24,7 @@ out same";
 const NAMES: [&str; 13] = [
     "#",
     "before",
-    "behind",
+    "after",
     "call",
     "file-room",
     "in",
@@ -116,7 +116,7 @@ fn input_of(alloc: Global, case: &str) -> Result<Vec<u8>, AllocError> {
     image.extend_from_slice(record.as_bytes())?;
     image.extend_from_slice(&job)?;
     image.push(b'\n')?;
-    image.extend_from_slice(&said_of(alloc, case, "behind")?)?;
+    image.extend_from_slice(&said_of(alloc, case, "after")?)?;
     image.extend_from_slice(b"E\n")?;
     Ok(image)
 }

@@ -2,7 +2,7 @@
 use crate::case::try_cases;
 use std::test::Fail;
 
-const LABELS: &str = "# behind a refusal the run goes on at a label
+const LABELS: &str = "# after a refusal the run goes on at a label
 job @DEL NONE.TXT{LF}@IF (ERROR) @GOTO SKIP{LF}@INF VER{LF}SKIP::{LF}@LOG{LF}
 screen @DEL NONE.TXT{EOL}?No such file{EOL}@IF (ERROR) @GOTO SKIP{EOL}SKIP::{EOL}@LOG{EOL}Logged out{EOL}
 moments 2
@@ -34,7 +34,7 @@ job {40*A}::{LF}
 screen {40*A}::{EOL}?Invalid line in control file{EOL}
 status Stopped
 
-# a line behind a jump is used again, and counted again
+# a line after a jump is used again, and counted again
 job A::{LF}@GOTO A{LF}
 screen {5000*TURN}?Too many lines{EOL}
 status Stopped
@@ -76,7 +76,7 @@ screen @DEL NONE.TXT{EOL}?No such file{EOL}@IF (NOERROR) @LOG{EOL}@INF VER{EOL} 
 job @IF (ERROR) @LOG{LF}@if (noerror) @INF VER{LF}@INF VER{LF}
 screen @IF (ERROR) @LOG{EOL}@if (noerror) @INF VER{EOL} EXEC20 1{EOL}@INF VER{EOL} EXEC20 1{EOL}
 
-# what stands behind a condition may be refused again
+# what stands after a condition may be refused again
 job @DEL NONE.TXT{LF}@IF (ERROR) @DEL NONE.TXT{LF}@LOG{LF}
 screen @DEL NONE.TXT{EOL}?No such file{EOL}@IF (ERROR) @DEL NONE.TXT{EOL}?No such file{EOL}@LOG{EOL}?No such file{EOL}
 status Stopped
@@ -120,11 +120,13 @@ job @{LF}@LOG{LF}@INF VER{LF}
 screen @{EOL}@LOG{EOL}Logged out{EOL}
 moments 2";
 
+// [label]
 #[test]
 fn goes_on_at_labels(rt: HostRuntime) -> Result<(), Fail> {
     try_cases(&rt, LABELS)
 }
 
+// [error-flag]
 #[test]
 fn does_what_conditions_let(rt: HostRuntime) -> Result<(), Fail> {
     try_cases(&rt, CONDITIONS)

@@ -33,7 +33,7 @@ job @GOTO A{LF}
 screen @GOTO A{EOL}?
 status Stopped
 
-# the file cannot be created, behind all lines
+# the file cannot be created, after all lines
 call 1
 job @INF VER{LF}
 screen @INF VER{EOL} EXEC20 1{EOL}?Host fault{EOL}

@@ -1,7 +1,7 @@
 // A run that takes a command file, with each put on the screen failing, each call of the host, and both together.
 //
 // What must stand is the trace of the whole run, cut where a put fails. The screen fails in one put alone, and would
-// take what is put behind it.
+// take what is put after it.
 use crate::given::run_program;
 use cm_faults::{
     Failing, NOTHING, Part, PartSink, Stands, closing, has_image, is_written, push_text, stands_at,
@@ -18,7 +18,7 @@ const INPUT: &str =
     "EXEC20 2|D OPERATOR 1|C OPERATOR|F OPERATOR B.CMD.1 U 1 0 - 27|BUILD <X>|COPY B.CMD C.CMD||\
     F OPERATOR JOB.CTL.1 U 1 0 - 25|@TAKE B.CMD|@DEL JOB.CTL||E|";
 
-// Behind `act` is the image, with `/` between its writes: as it was, with a directory more, with a file more, and with
+// After `act` is the image, with `/` between its writes: as it was, with a directory more, with a file more, and with
 // a file marked.
 const TRACE: &str = "act EXEC20 2|/D OPERATOR 1|/C OPERATOR|/F OPERATOR B.CMD.1 U 1 0 - 27|/\
     BUILD <X>|COPY B.CMD C.CMD|/|/F OPERATOR JOB.CTL.1 U 1 0 - 25|/@TAKE B.CMD|@DEL JOB.CTL|/|/E|
@@ -133,7 +133,7 @@ fn try_one(runtime: &HostRuntime, failing: &Failing, whole: &Outcome) -> Result<
     )))
 }
 
-// With each call of the host, and behind these with one that is not made.
+// With each call of the host, and after these with one that is not made.
 fn try_calls(runtime: &HostRuntime, failing: Failing, whole: &Outcome) -> Result<(), Fail> {
     for call in 0..CALLS.saturating_add(1) {
         let both = Failing {
@@ -145,7 +145,7 @@ fn try_calls(runtime: &HostRuntime, failing: Failing, whole: &Outcome) -> Result
     Ok(())
 }
 
-// With each call of the host, or with each third behind the first puts.
+// With each call of the host, or with each third after the first puts.
 fn try_put(runtime: &HostRuntime, put: usize, part: Part, whole: &Outcome) -> Result<(), Fail> {
     let left = (put % 3) as u32;
     for call in 0..CALLS.saturating_add(1) {

@@ -16,7 +16,7 @@ job {}
 
 # of two generations the higher
 job @INF VER{LF}
-behind F OPERATOR JOB.CTL.2 U 1 0 - 4{LF}@LOG{LF}
+after F OPERATOR JOB.CTL.2 U 1 0 - 4{LF}@LOG{LF}
 screen @LOG{EOL}Logged out{EOL}";
 
 const REFUSED: &str = "# it is not there

@@ -7,7 +7,7 @@ use ex_batch::{Status, Words, batch20};
 use std::marker::Brand;
 use std::sync::ledger::{Blank, Ledger};
 
-// What a run is given behind its words, and what of it fails.
+// What a run is given after its words, and what of it fails.
 #[derive(Clone, Copy)]
 pub struct Given<'a> {
     pub input: Option<&'a [u8]>,

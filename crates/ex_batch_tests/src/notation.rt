@@ -11,7 +11,7 @@ const NAMES: [(&str, &str); 8] = [
     ("LF", "\n"),
     ("SP", " "),
     ("TAB", "\t"),
-    // a turn of a run that goes on at a label behind it
+    // a turn of a run that goes on at a label after it
     ("TURN", "A::\r\n@GOTO A\r\n"),
 ];
 
@@ -23,7 +23,7 @@ pub(crate) fn push_said(text: &str, said: &mut Vec<u8>) -> Result<(), AllocError
     Ok(())
 }
 
-// Adds what a part says, which begins behind a brace or stands before the first one.
+// Adds what a part says, which begins after a brace or stands before the first one.
 fn push_part(part: &str, said: &mut Vec<u8>) -> Result<(), AllocError> {
     let Some((name, rest)) = part.split_once('}') else {
         return said.extend_from_slice(part.as_bytes());

@@ -100,6 +100,7 @@ screen @INF VER{EOL} EXEC20 1{EOL}
 out {HEAD}E{LF}
 moments 3";
 
+// [batch-line]
 #[test]
 fn refuses_lines(rt: HostRuntime) -> Result<(), Fail> {
     try_cases(&rt, REFUSED)

@@ -15,7 +15,7 @@ use Rattle.cm_fields.specs.declared.code.Code.TheVariants.{BadDate, YearRange}
 use Rattle.cm_fields.specs.declared.value.Value.{Value}
 use Rattle.cm_fields.specs.declared.value.Value.TheVariants.{Date}
 use Rattle.cm_dates.specs.Date.{date_of, dated, day_in, is_hyphen, is_number, month_among, month_of, months, year_of}
-use Rattle.cm_dates.proofs.Texts.{behind_last}
+use Rattle.cm_dates.proofs.Texts.{after_last}
 use Rattle.ex_store.specs.WellFormed.{is_day}
 
 before_first_day : day_count (pos 1969) 12 31 ≡ 4_371_952
@@ -33,8 +33,8 @@ day_between y m d from to month some fits =
     let count = days_from_civil-day_count (pos y) m d in
     let civil : IsCivilDate (pos y) m d = ((omega (arith, signed_arith), omega (arith, signed_arith)), month, (some, fits)) in
     let before = day_count-lt_year (pos 1969) 12 31 (pos y) m d date_before some (omega (arith, signed_arith)) in
-    let behind = day_count-lt_year (pos y) m d (pos 2100) 1 1 civil (omega arith) (omega (arith, signed_arith)) in
-    (omega (arith, signed_arith, count, before, before_first_day), omega (arith, signed_arith, count, behind, behind_last))
+    let after = day_count-lt_year (pos y) m d (pos 2100) 1 1 civil (omega arith) (omega (arith, signed_arith)) in
+    (omega (arith, signed_arith, count, before, before_first_day), omega (arith, signed_arith, count, after, after_last))
 
 day_is : (day : ℤ) → IsBetween (pos 0) (pos 47481) day → is_day (Some day) ≡ true
 day_is (pos n) between = (let most = between.1 in grind (arith, nat_tests))

@@ -82,7 +82,7 @@ sources_there state text fields typed place is =
     let it = of_field (field_of roles.Source fields) _ place is in
     source_there state text fields typed it.0 place it.1 it.2
 
--- behind COPY and RENAME files can be made of the target
+-- after COPY and RENAME files can be made of the target
 target_there : (state : State) (text : List ℕ) (fields : List FieldView) → IsTyped state text fields → (verb : FieldView)
     → field_of roles.Verb fields ≡ Some verb → names_made (keyword_code verb.value) ≡ true → (place : Place)
     → place_in (line_over state text fields) (field_of roles.Target fields) ≡ Some place → IsTarget place state.directories
@@ -91,7 +91,7 @@ target_there state text fields typed verb verb_is made place is =
     let read = made_target (catalogue_of state) text fields typed.ends verb it.0 typed.parse verb_is made it.1 in
     field_target state typed.lawful text it.0 (flags_of exec_graph it.0) place read it.2
 
--- behind APPEND it is one file
+-- after APPEND it is one file
 one_there : (state : State) (text : List ℕ) (fields : List FieldView) → IsTyped state text fields → (verb : FieldView)
     → field_of roles.Verb fields ≡ Some verb → names_grown (keyword_code verb.value) ≡ true → (place : Place)
     → place_in (line_over state text fields) (field_of roles.Target fields) ≡ Some place
@@ -135,12 +135,12 @@ old_may : (state : State) (text : List ℕ) (fields : List FieldView) → IsType
 old_may state text fields typed verb verb_is old name is =
     let it = of_field (field_of roles.Files fields) _ name is in
     let read = files_read (catalogue_of state) text fields typed.ends typed.parse it.0 it.1 in
-    let behind = old_directory (catalogue_of state) text fields typed.ends verb it.0 typed.parse verb_is old it.1 in
+    let after = old_directory (catalogue_of state) text fields typed.ends verb it.0 typed.parse verb_is old it.1 in
     let tried = read.tried in
-    let same = same_block (setting exec_graph (catalogue_of state) exec_meanings) text it.0 tried behind.tried in
+    let same = same_block (setting exec_graph (catalogue_of state) exec_meanings) text it.0 tried after.tried in
     let plain = trial_old (catalogue_of state) tried.block.function tried.block.flags (drop tried.at tried.said) tried.at it.0.value tried.looked tried.end
     (files_names tried.block.function read.by_function)
-    (ap (λ (block : Block). block.flags.new) same ∙ not-true behind.tried.block.flags.new behind.read) tried.accepts in
+    (ap (λ (block : Block). block.flags.new) same ∙ not-true after.tried.block.flags.new after.read) tried.accepts in
     directory_there state _ it.0.value name plain
     (field_meant (catalogue_of state) typed.lawful text it.0 reads_files files_names read) it.2
 

@@ -9,7 +9,7 @@ use Rattle.ex_store.specs.declared.row.Row.{Row}
 use Rattle.ex_store.specs.WellFormed.{is_reading, is_row_among}
 use Rattle.ex_store.proofs.AllCopiedLaws.{formed}
 
--- the first of some files, and those behind it
+-- the first of some files, and those after it
 pub record IsFirst (directories : List Directory) (row : Row) (rest : List Row) : Type 0 where
   pub moment : row.file.moment ≤ MOMENT_LIMIT
   pub reading : is_reading row.file.read ≡ true

@@ -18,7 +18,7 @@ use Rattle.cm_fields.specs.declared.value.Value.TheVariants as values
 use Rattle.cm_files.proofs.LogicalNames.{short_name}
 use Rattle.cm_files.specs.declared.flags.Flags.{Flags}
 use Rattle.cm_files.specs.Catalogue.{Catalogue}
-use Rattle.cm_files.specs.Fields.{directory_of, file_of, has_colon_behind, is_file, is_plain_path, user_of}
+use Rattle.cm_files.specs.Fields.{directory_of, file_of, has_colon_after, is_file, is_plain_path, user_of}
 use Rattle.cm_files.specs.LogicalName.{is_logical_name}
 use Rattle.cm_hooks.specs.declared.answer.Answer.TheVariants.{Yes, No}
 use Rattle.cm_hooks.specs.Field.{hook_of, judged}
@@ -43,7 +43,7 @@ use Rattle.ex_commands.specs.declared.commands.define.TheConstants.{NAME_RULE}
 use Rattle.ex_commands.specs.declared.commands.print.TheConstants.{AFTER_NODE, FORMS_NODE, FORM_RULE, JOBNAME_NODE, NOTE_NODE}
 use Rattle.ex_commands.specs.Line.{last_at}
 use Rattle.ex_commands.proofs.LastFields.{last_tried}
-use Rattle.ex_commands.specs.Said.{IsLogical, IsLogicalIn, IsReadable, IsSaid, IsSaidIn}
+use Rattle.ex_commands.specs.NameParts.{IsLogical, IsLogicalIn, IsReadable, IsSaid, IsSaidIn}
 use Rattle.ex_commands.proofs.Judgements.{IsPlain, PlainIfAccept, accepted_plain, date_is_plain, hook_said, number_is_plain, plain_said, quoted_plain, switch_plain, word_is_plain}
 use Rattle.cm_blocks.proofs.Places.{IsRun, run_of, token_says, user_says}
 use Rattle.ex_commands.proofs.ShortParts.{directory_said, file_said}
@@ -189,8 +189,8 @@ unfolding trial
 trial_said s (Token text) flags rest at value looked end reads is =
     subst IsSaid (sym (token_says text rest at value looked end is)) tt
 trial_said s User flags rest at value looked end reads is =
-    let run = run_of is_plain_path (user_of s.catalogue (has_colon_behind rest)) rest at value looked end is in
-    subst IsSaid (sym (user_says s.catalogue (has_colon_behind rest) _ value run.decided).2) tt
+    let run = run_of is_plain_path (user_of s.catalogue (has_colon_after rest)) rest at value looked end is in
+    subst IsSaid (sym (user_says s.catalogue (has_colon_after rest) _ value run.decided).2) tt
 trial_said s Directory flags rest at value looked end reads is =
     let run = run_of is_file (directory_of flags.new s.catalogue at) rest at value looked end is in
     directory_said flags.new s.catalogue at _ value run.decided

@@ -32,12 +32,12 @@ use Rattle.cm_hooks.specs.Among.{only, under, verdict_among}
 use Rattle.cm_hooks.specs.declared.answer.Answer.{Answer}
 use Rattle.cm_hooks.specs.declared.answer.Answer.TheVariants.{Yes, No, NoBecause}
 use Rattle.cm_hooks.specs.Field.{hook_of, judged}
-use Rattle.cm_blocks.specs.Keyword.{behind_slash, code_at, entry_position, has_colon, named_switch, switch}
+use Rattle.cm_blocks.specs.Keyword.{after_slash, code_at, entry_position, has_colon, named_switch, switch}
 use Rattle.ex_grammar.specs.ExecRules.{forms, logical_verdict, rule_verdict}
 use Rattle.ex_grammar.specs.RetentionCount.{retention_verdict}
 use Rattle.ex_store.specs.declared.limits.TheConstants.{FORMS, RETENTION_LIMIT}
 use Rattle.ex_commands.specs.declared.commands.print.TheConstants.{FORM_RULE}
-use Rattle.ex_commands.specs.Said.{IsRuled, IsSaid}
+use Rattle.ex_commands.specs.NameParts.{IsRuled, IsSaid}
 use Rattle.ex_commands.proofs.Dates.{IsDayIfOk, date_is}
 
 -- the value of a switch, or one that a switch may have and no rule judged
@@ -89,7 +89,7 @@ date_plain run = by (date_of run) (run_is_date run) (date_is run)
     by (Ok value) is day_is = absurd is
     by (Err code) is day_is = tt
 
--- what stands behind the opening quote
+-- what stands after the opening quote
 closing_plain : (at size written : ℕ) (rest : List ℕ) → PlainIfAccept (by_closing at (closing size written rest))
 closing_plain at size written [] = tt
 closing_plain at size written (byte ∷ []) = cond_each (λ found. PlainIfAccept (by_closing at found)) (is_cut byte) _ _ tt tt
@@ -116,7 +116,7 @@ named_plain table at size colon (Err code) = tt
 pub switch_plain : (table : List Entry) (rest : List ℕ) (at : ℕ) → PlainIfAccept (switch table rest at)
 switch_plain table [] at = tt
 switch_plain table (byte ∷ rest) at =
-    cond_each PlainIfAccept (byte == 47) (behind_slash table rest at) (Refuse NotSwitch 1)
+    cond_each PlainIfAccept (byte == 47) (after_slash table rest at) (Refuse NotSwitch 1)
     (cond_each PlainIfAccept (prefix_len is_word rest == length rest) More _ tt
     (named_plain table at (prefix_len is_word rest) (option_map_or (λ byte. byte == 58) (slice_get rest (prefix_len is_word rest)) false)
     (entry_position table (take (prefix_len is_word rest) rest)))) tt

@@ -28,7 +28,7 @@ last_other node (first ∷ fields) (suc k) n field one there other none =
     last_other node fields k (k + 1) field refl there other
     (sym (ap (λ (m : ℕ). last_at node (drop m (first ∷ fields))) step) ∙ none)
 
--- a field of the node, behind which there is none
+-- a field of the node, after which there is none
 last_here : (node : ℕ) (fields : List FieldView) (k n : ℕ) (field : FieldView) → n ≡ k + 1 → slice_get fields k ≡ Some field
     → (field.node == node) ≡ true → last_at node (drop n fields) ≡ None → last_at node (drop k fields) ≡ Some field
 last_here node [] k n field one there is none = cc

@@ -1,3 +1,4 @@
+-- [command]
 -- A line with a verb commands something: its keyword is that of a command, and its line has the fields that it wants.
 -- Write is_empty command ≡ false for command ≢ Empty: it is refl.
 use Rattle.std.proofs.Common.{◌≡◌, ◌≢◌, ◌⊎◌, inl, inr, ℕ, ◌<◌, ◌≤◌, ◌||◌, ◌==◌, Bool, true, false, not, if◌then◌else◌, List, length, drop, get_or, Option, Some, None, slice_get, Ok, refl, ap, sym, ◌∙◌, arith}
@@ -46,7 +47,7 @@ use Rattle.ex_commands.specs.Commands.Set.{set_of}
 use Rattle.ex_commands.specs.Line.{Line, between, count_by, count_in, directory_by, directory_in, flags_of, has_subs, keyword_code, on, place_by, place_in, said_of, upper}
 use Rattle.cm_blocks.proofs.Values.{is_directory, is_files, is_fixed, is_ruled, meant_found, meant_within, trial_says}
 use Rattle.cm_state.proofs.Branches.{Branch, IsOf, all_pass_at, or_right}
-use Rattle.cm_state.proofs.Ways.{IsThere, IsWay, there_behind, verb_keyword}
+use Rattle.cm_state.proofs.Ways.{IsThere, IsWay, there_after, verb_keyword}
 use Rattle.ex_commands.proofs.Verbs.{begins, command_table}
 
 -- the codes of the commands
@@ -357,7 +358,7 @@ module _ (c : Catalogue) (text : List ℕ) (fields : List FieldView) (verb : Fie
       → (keyword_code verb.value == wanted) ≡ true → IsThere (setting exec_graph c exec_meanings) text way fields
   there way is_way wanted names is =
       let same : keyword_code verb.value ≡ wanted = grind (arith, nat_tests) in
-      there_behind (setting exec_graph c exec_meanings) COMMANDS command_table begins keyword_code
+      there_after (setting exec_graph c exec_meanings) COMMANDS command_table begins keyword_code
       (λ place number. refl) text way is_way fields verb typed.parse typed.verb_is (ap way.names same ∙ names)
 
   -- APPEND, COPY and RENAME

@@ -1,5 +1,5 @@
 -- What commands show ends its line.
--- That a reply ends its line is one lemma a line (behind), since ++ joins to the left. A slice's last byte is slice_get
+-- That a reply ends its line is one lemma a line (after), since ++ joins to the left. A slice's last byte is slice_get
 -- xs (length xs - 1).
 use Rattle.std.proofs.Common.{◌≡◌, ◌⊎◌, ℕ, ◌==◌, ◌&&◌, nat_le, nat_lt, Bool, true, false, cond, List, [], ◌∷◌, ◌++◌, Option, None, Some, Result, Ok, Err, length, refl, ap, sym, subst, ◌∙◌, inl, inr, arith, append_assoc, append-nil}
 use Rattle.std.specs.List.{flat_map, last_or}
@@ -7,7 +7,7 @@ use Rattle.std.specs.Option.{option_map_or}
 use Rattle.std.specs.Prelude.{unwrap_or}
 use Rattle.std.specs.Fmt.{decimal}
 use Rattle.std.proofs.lemmas.Bool.Decides.{nat_tests}
-use Rattle.cm_text.specs.Shown.{end_of_line, question}
+use Rattle.cm_text.specs.ScreenBytes.{end_of_line, question}
 use Rattle.cm_fields.specs.Code.{code_text}
 use Rattle.cm_fields.specs.declared.code.Code.{Code}
 use Rattle.cm_fields.specs.declared.code.Code.TheVariants.{CopyRange, NameNeeded, NoDefinition, NoMatch}
@@ -32,7 +32,7 @@ use Rattle.ex_commands.specs.Act.{Act, act_of, plays}
 use Rattle.ex_commands.specs.Commands.Copy.{writes}
 use Rattle.ex_commands.specs.Commands.Directory.{listed, listing, lists_rows}
 use Rattle.ex_commands.specs.Commands.Expunge.{freed_line}
-use Rattle.ex_commands.specs.Commands.Information.{definition_line, directory_line, directory_lines, entry_line, pages_line, retention_line, told, version_line, wishes_text}
+use Rattle.ex_commands.specs.Commands.Information.{definition_line, directory_line, directory_lines, entry_line, pages_line, retention_line, topic_text, version_line, wishes_text}
 use Rattle.ex_commands.specs.Commands.Logout.{farewell_line}
 use Rattle.ex_commands.specs.Commands.Print.{request_of}
 use Rattle.ex_store.specs.declared.limits.TheConstants.{COPIES_LIMIT}
@@ -53,9 +53,9 @@ pub eol_ends : Ended end_of_line
 unfolding end_of_line
 eol_ends = record { front = 13 ∷ []; ends = refl }
 
--- what ends a line, behind other bytes
-pub behind : (first more : List ℕ) → Ended more → Ended (first ++ more)
-behind first more ended = record {
+-- what ends a line, after other bytes
+pub ended_after : (first more : List ℕ) → Ended more → Ended (first ++ more)
+ended_after first more ended = record {
   front = first ++ ended.front;
   ends = append_assoc first ended.front (10 ∷ []) ∙ ap (λ bytes. first ++ bytes) ended.ends;
 }
@@ -64,7 +64,7 @@ both : (first more : List ℕ) → Ends first → Ends more → Ends (first ++ m
 both first more (inl none) ends = subst (λ bytes. Ends (bytes ++ more)) (sym none) ends
 both first more (inr ended) (inl none) =
     subst (λ bytes. Ends (first ++ bytes)) (sym none) (subst Ends (sym (append-nil first)) (inr ended))
-both first more (inr ended) (inr later) = inr (behind first more later)
+both first more (inr ended) (inr later) = inr (ended_after first more later)
 
 each : {X : Type 0} (f : X → List ℕ) → ((x : X) → Ends (f x)) → (xs : List X) → Ends (flat_map f xs)
 each f ends [] = inl refl
@@ -88,9 +88,9 @@ last_of first (byte ∷ bytes) =
       is = more.is;
     }
 
-last_behind : (before : Option ℕ) (front : List ℕ) (last : ℕ) → last_or before (front ++ last ∷ []) ≡ Some last
-last_behind before [] last = refl
-last_behind before (byte ∷ front) last = last_behind (Some byte) front last
+last_after : (before : Option ℕ) (front : List ℕ) (last : ℕ) → last_or before (front ++ last ∷ []) ≡ Some last
+last_after before [] last = refl
+last_after before (byte ∷ front) last = last_after (Some byte) front last
 
 -- so tests the text that ends a line
 pub ends_test : (bytes : List ℕ) → ends_line bytes ≡ true → Ends bytes
@@ -104,22 +104,22 @@ ends_test (byte ∷ bytes) test =
 pub test_ends : (bytes : List ℕ) → Ends bytes → ends_line bytes ≡ true
 test_ends bytes (inl none) = ap ends_line none
 test_ends bytes (inr ended) =
-    ap ends_line (sym ended.ends) ∙ ap (λ (o : Option ℕ). option_map_or (λ last. last == 10) o true) (last_behind None ended.front 10)
+    ap ends_line (sym ended.ends) ∙ ap (λ (o : Option ℕ). option_map_or (λ last. last == 10) o true) (last_after None ended.front 10)
 
 -- the lines of replies
 pub refusal_ends : (code : Code) → Ended (refusal code)
 unfolding refusal
-refusal_ends code = behind question _ (behind (code_text code) _ eol_ends)
+refusal_ends code = ended_after question _ (ended_after (code_text code) _ eol_ends)
 
 done_ends : Ended done_text
 unfolding done_text
-done_ends = behind done_mark _ eol_ends
+done_ends = ended_after done_mark _ eol_ends
 
 pair_ends : (origin : Origin) (pair : NamePair) → Ends (origin_line origin pair)
 unfolding pair_line typed_line queued_line
-pair_ends Files pair = inr (behind (space ++ full_text pair.source ++ arrow ++ full_text pair.target) done_text done_ends)
-pair_ends Terminal pair = inr (behind (from_terminal ++ full_text pair.target) done_text done_ends)
-pair_ends Queue pair = inr (behind (queued ++ full_text pair.source) end_of_line eol_ends)
+pair_ends Files pair = inr (ended_after (space ++ full_text pair.source ++ arrow ++ full_text pair.target) done_text done_ends)
+pair_ends Terminal pair = inr (ended_after (from_terminal ++ full_text pair.target) done_text done_ends)
+pair_ends Queue pair = inr (ended_after (queued ++ full_text pair.source) end_of_line eol_ends)
 
 pub held_ends : (row : Row) → Ends (held_text row)
 unfolding held_text
@@ -127,53 +127,53 @@ held_ends row = by (ends_line row.file.bytes) refl
   where
     by : (test : Bool) → ends_line row.file.bytes ≡ test → Ends (row.file.bytes ++ cond test [] end_of_line)
     by true is = subst Ends (sym (append-nil row.file.bytes)) (ends_test row.file.bytes is)
-    by false is = inr (behind row.file.bytes end_of_line eol_ends)
+    by false is = inr (ended_after row.file.bytes end_of_line eol_ends)
 
 changed_ends : (row : Row) → Ends (line_of Changed row)
 unfolding changed_line
-changed_ends row = inr (behind (space ++ full_text (full_of row)) done_text done_ends)
+changed_ends row = inr (ended_after (space ++ full_text (full_of row)) done_text done_ends)
 
 listing_ends : (read : Bool) (directory : List ℕ) (rows : List Row) → Ended (listing read directory rows)
 unfolding listing total_line
 listing_ends read directory rows =
-    behind (heading directory ++ flat_map (listed_line read) rows) (total_line (length rows))
-    (behind (total_of ++ decimal (length rows) ++ files_counted) end_of_line eol_ends)
+    ended_after (heading directory ++ flat_map (listed_line read) rows) (total_line (length rows))
+    (ended_after (total_of ++ decimal (length rows) ++ files_counted) end_of_line eol_ends)
 
 freed_ends : (directory : List ℕ) (pages : ℕ) → Ended (freed_line directory pages)
 unfolding freed_line
 freed_ends directory pages =
-    behind (space ++ directory_text directory ++ pages_freed ++ decimal pages ++ right_bracket) end_of_line eol_ends
+    ended_after (space ++ directory_text directory ++ pages_freed ++ decimal pages ++ right_bracket) end_of_line eol_ends
 
 -- what is told about a topic
 pages_end : (pages : ℕ) → Ended (pages_line pages)
 unfolding pages_line
-pages_end pages = behind (pages_had ++ decimal pages) end_of_line eol_ends
+pages_end pages = ended_after (pages_had ++ decimal pages) end_of_line eol_ends
 
 directory_end : (state : State) → Ended (directory_lines state)
 unfolding directory_lines
 directory_end state =
-    behind (directory_line state.connected ++ retention_line (retention_of state.connected state.directories))
+    ended_after (directory_line state.connected ++ retention_line (retention_of state.connected state.directories))
     (pages_line (pages_in state.connected state.rows)) (pages_end (pages_in state.connected state.rows))
 
 definition_ends : (entry : Definition) → Ends (definition_line entry)
 unfolding definition_line
 definition_ends entry =
-    inr (behind (space ++ entry.name ++ stands_for ++ directory_text entry.directory) end_of_line eol_ends)
+    inr (ended_after (space ++ entry.name ++ stands_for ++ directory_text entry.directory) end_of_line eol_ends)
 
 entry_ends : (entry : QueueEntry) → Ends (entry_line entry)
 unfolding entry_line
-entry_ends entry = inr (behind (space ++ full_text entry.file ++ wishes_text entry) end_of_line eol_ends)
+entry_ends entry = inr (ended_after (space ++ full_text entry.file ++ wishes_text entry) end_of_line eol_ends)
 
 version_ends : Ended version_line
 unfolding version_line
-version_ends = behind version _ eol_ends
+version_ends = ended_after version _ eol_ends
 
 either_ends : (test : Bool) (one other : List ℕ) → Ends one → Ends other → Ends (cond test one other)
 either_ends true one other here there = here
 either_ends false one other here there = there
 
-told_ends : (what : ℕ) (state : State) → Ends (told what state)
-told_ends what state =
+topic_text_ends : (what : ℕ) (state : State) → Ends (topic_text what state)
+topic_text_ends what state =
     either_ends (what == DIRECTORY_TOPIC) _ _ (inr (directory_end state))
     (either_ends (what == LOGICAL_NAMES) _ _ (each definition_line definition_ends state.logical)
     (either_ends (what == OUTPUT_REQUESTS) _ _ (each entry_line entry_ends state.queue)
@@ -181,7 +181,7 @@ told_ends what state =
 
 farewell_ends : Ended farewell_line
 unfolding farewell_line
-farewell_ends = behind farewell _ eol_ends
+farewell_ends = ended_after farewell _ eol_ends
 
 plays_end : (origin : Origin) (made : Result Planned Code) (state : State) → Ends (plays origin made state).reply
 plays_end origin (Ok made) state = each (origin_line origin) (pair_ends origin) made.pairs
@@ -218,7 +218,7 @@ act_ends (commands.Directory files since before deleted read sub) moment state =
 act_ends (commands.Expunge directory) moment state =
     inr (freed_ends (unwrap_or directory state.connected)
     (pages_marked (unwrap_or directory state.connected) state.rows))
-act_ends (commands.Information what) moment state = told_ends what state
+act_ends (commands.Information what) moment state = topic_text_ends what state
 act_ends commands.Logout moment state = inr farewell_ends
 act_ends (commands.Print files copies form after job note) moment state =
     choice_ends (nat_lt 0 copies && nat_le copies COPIES_LIMIT) _ _

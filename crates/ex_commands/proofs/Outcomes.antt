@@ -1,4 +1,5 @@
--- What a command comes to: it is done or refused, or it is COPY TTY:, TAKE or LOGOUT, or it waits for subcommands.
+-- [cut-reply]
+-- The outcome of a command: it is done or refused, or it is COPY TTY:, TAKE or LOGOUT, or it waits for subcommands.
 -- Laws over all commands stand on one list of cases (Comes), most of them absurd (cc).
 use Rattle.std.proofs.Common.{◌≡◌, ◌↔◌, ℕ, Bool, true, false, cond, ◌&&◌, nat_le, nat_lt, Some, None, List, [], ◌∷◌, Result, Ok, Err, refl, ap, sym, ◌∙◌}
 use Rattle.cm_fields.specs.declared.code.Code.{Code}

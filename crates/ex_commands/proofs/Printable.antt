@@ -39,7 +39,7 @@ use Rattle.ex_commands.specs.Answer.{MayAsk}
 use Rattle.ex_commands.specs.Commands.Define.{logical_by}
 use Rattle.ex_commands.specs.Commands.Print.{after_in, form_by, form_in, job_in, note_in, quoted_by, word_by}
 use Rattle.ex_commands.specs.Line.{day_by, last_at, said_of, upper}
-use Rattle.ex_commands.specs.Said.{IsSaid, IsSaidIn}
+use Rattle.ex_commands.specs.NameParts.{IsSaid, IsSaidIn}
 use Rattle.ex_commands.proofs.Forms.{is_finished, note_formed}
 use Rattle.ex_commands.proofs.Fits.{IsAtNode, IsRead, after_node, at_node, job_node, names_are_short, note_node, reads_value, switches, value_at_node}
 use Rattle.ex_commands.proofs.Judgements.{accepted_plain, date_is_plain, number_is_plain, quoted_plain, switch_plain, word_is_plain}

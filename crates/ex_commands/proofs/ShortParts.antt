@@ -12,7 +12,7 @@ use Rattle.cm_files.specs.Catalogue.{Catalogue}
 use Rattle.cm_files.specs.Fields.{directory_of, file_of, moved}
 use Rattle.cm_files.specs.Spec.{is_long}
 use Rattle.cm_blocks.proofs.Places.{SaysDirectory, directory_says, file_says, parts_are_short}
-use Rattle.ex_commands.specs.Said.{IsSaid, IsShort}
+use Rattle.ex_commands.specs.NameParts.{IsSaid, IsShort}
 
 -- a part stays as short where it is moved
 short_moved : (at : ℕ) (place : Option Span) → is_long place ≡ false → IsShort (option_map (moved at) place)

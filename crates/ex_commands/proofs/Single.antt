@@ -23,7 +23,7 @@ use Rattle.cm_files.proofs.Beside.{texts_same}
 
 -- a byte of a pattern that is no wildcard stands for one byte of names
 
--- what a plain byte at the head of a pattern comes to
+-- the outcome of a plain byte at the head of a pattern
 plain_step : (mark : ℕ) (more name : List ℕ) → (mark == 42) ≡ false → matches (mark ∷ more) name ≡ one_and (matches more) mark name
 plain_step mark more name other = ap (λ star. cond star (some_end (matches more) name) (one_and (matches more) mark name)) other
 

@@ -21,7 +21,7 @@ use Rattle.ex_commands.specs.declared.command.Command.TheVariants as commands
 use Rattle.ex_commands.specs.Answer.{MayAct}
 use Rattle.ex_commands.specs.Command.{added, complete, extended, subcommand_node, with_sub}
 use Rattle.ex_commands.specs.Line.{count_by, count_in, keyword_code}
-use Rattle.ex_commands.specs.Said.{IsSaid, IsSaidIn}
+use Rattle.ex_commands.specs.NameParts.{IsSaid, IsSaidIn}
 use Rattle.ex_commands.proofs.Fits.{names_are_short}
 
 abbrev pub IsKept : Option ℕ → Type 0

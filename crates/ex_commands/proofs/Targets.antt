@@ -22,7 +22,7 @@ use Rattle.cm_fields.specs.declared.value.Value.{Value}
 use Rattle.cm_fields.specs.declared.value.Value.TheVariants as values
 use Rattle.cm_files.specs.declared.flags.Flags.{Flags}
 use Rattle.cm_files.specs.Catalogue.{Catalogue, IsCatalogue, is_directory_name, is_upper_name}
-use Rattle.cm_files.specs.Fields.{directory_of, file_of, has_colon_behind, is_file, is_plain_path, moved, moved_spec, user_of}
+use Rattle.cm_files.specs.Fields.{directory_of, file_of, has_colon_after, is_file, is_plain_path, moved, moved_spec, user_of}
 use Rattle.cm_files.specs.Pattern.{is_wild}
 use Rattle.cm_files.specs.Resolve.{by_device, has_bad_copy, has_wild, has_wild_and_more, is_all, is_bad_generation}
 use Rattle.cm_files.specs.Spec.{is_long, part, read_spec}
@@ -119,8 +119,8 @@ unfolding trial
 trial_meant c is_catalogue (functions.Token phrase) flags rest at text value looked end reads says is =
     subst (IsMeant c text) (sym (token_says phrase rest at value looked end is)) tt
 trial_meant c is_catalogue functions.User flags rest at text value looked end reads says is =
-    let run = run_of is_plain_path (user_of c (has_colon_behind rest)) rest at value looked end is in
-    let it = user_says c (has_colon_behind rest) (run_text is_plain_path rest) value run.decided in
+    let run = run_of is_plain_path (user_of c (has_colon_after rest)) rest at value looked end is in
+    let it = user_says c (has_colon_after rest) (run_text is_plain_path rest) value run.decided in
     subst (IsMeant c text) (sym it.2) (user_within c (run_text is_plain_path rest) it.0 it.1)
 trial_meant c is_catalogue functions.Directory flags rest at text value looked end reads says is =
     let run = run_of is_file (directory_of flags.new c at) rest at value looked end is in
@@ -199,8 +199,8 @@ unfolding trial
 trial_old c (functions.Token phrase) flags rest at value looked end reads old is =
     subst (λ (it : Value). is_new it ≡ false) (sym (token_says phrase rest at value looked end is)) refl
 trial_old c functions.User flags rest at value looked end reads old is =
-    let run = run_of is_plain_path (user_of c (has_colon_behind rest)) rest at value looked end is in
-    let it = user_says c (has_colon_behind rest) (run_text is_plain_path rest) value run.decided in
+    let run = run_of is_plain_path (user_of c (has_colon_after rest)) rest at value looked end is in
+    let it = user_says c (has_colon_after rest) (run_text is_plain_path rest) value run.decided in
     subst (λ (it : Value). is_new it ≡ false) (sym it.2) refl
 trial_old c functions.Directory flags rest at value looked end reads old is =
     let run = run_of is_file (directory_of flags.new c at) rest at value looked end is in
@@ -343,7 +343,7 @@ field_target state is_catalogue text field own place read placed =
     trial_target state is_catalogue tried.block.function tried.block.flags own (drop tried.at tried.said) tried.at (said_of exec_graph text field)
     field.value tried.looked tried.end place read.read (run_says (catalogue_of state) text field tried) tried.accepts placed
 
--- the one file that bytes are put behind: it is named, with no wildcard
+-- the one file that bytes are put after: it is named, with no wildcard
 one_name : (text run : List ℕ) (at : ℕ) (spec : Spec) → read_spec run ≡ Ok spec → is_none spec.name ≡ false
     → has_wild run spec.name ≡ false → SaysParts text at run
     → has_plain_name (option_map (upper text) (option_map (moved at) spec.name)) ≡ true

@@ -1,12 +1,12 @@
 -- The keys with which the typing of a file ends.
 use Rattle.std.proofs.Common.{◌≡◌, ◌≢◌, ℕ, ◌==◌, ◌||◌, Bool, true, false, cond, List, Option, None, Some, length, slice_get, codes, ◌-◌, arith, refl, sym, ◌∙◌}
 use Rattle.std.proofs.lemmas.Bool.Decides.{nat_tests}
-use Rattle.cm_text.specs.Shown.{control_c, end_of_line}
-use Rattle.ex_commands.specs.Typed.{adding, echo_of, echo_text, is_typed, rubbing, turn_of}
+use Rattle.cm_text.specs.ScreenBytes.{control_c, end_of_line}
+use Rattle.ex_commands.specs.FileTyping.{adding, echo_of, echo_text, is_typed, rubbing, turn_of}
 use Rattle.ex_commands.specs.declared.data.DataTurn.TheVariants as turns
 use Rattle.ex_commands.specs.declared.data.Echo.{Echo}
 use Rattle.ex_commands.specs.declared.data.Echo.TheVariants as echoes
-use Rattle.ex_commands.proofs.LineEnds.{Ended, behind, eol_ends}
+use Rattle.ex_commands.proofs.LineEnds.{Ended, ended_after, eol_ends}
 
 -- one of two echoes writes nothing where neither does
 choice_keeps : (test : Bool) (one other : Echo) → turn_of one ≢ turns.Write → turn_of other ≢ turns.Write
@@ -47,8 +47,8 @@ echo_ends (echoes.Byte byte) ends = absurd (ends refl)
 echo_ends echoes.Line ends = absurd (ends refl)
 echo_ends echoes.Bell ends = absurd (ends refl)
 echo_ends echoes.Rubout ends = absurd (ends refl)
-echo_ends echoes.Written ends = behind (codes "^Z") end_of_line eol_ends
-echo_ends echoes.Dropped ends = behind control_c end_of_line eol_ends
+echo_ends echoes.Written ends = ended_after (codes "^Z") end_of_line eol_ends
+echo_ends echoes.Dropped ends = ended_after control_c end_of_line eol_ends
 
 pub last_key_ends : (bytes : List ℕ) (key : ℕ) → turn_of (echo_of bytes key) ≢ turns.More → Ended (echo_text (echo_of bytes key))
 last_key_ends bytes key ends = echo_ends (echo_of bytes key) ends

@@ -1,4 +1,4 @@
--- What stands behind the keywords of some commands: by which blocks the fields of a role are read there.
+-- What stands after the keywords of some commands: by which blocks the fields of a role are read there.
 -- A law of some verbs is a Branch of cm_state, an instance for each.
 use Rattle.std.proofs.Common.{◌≡◌, ℕ, ◌||◌, ◌==◌, Bool, true, not, List, Some, refl}
 use Rattle.cm_files.specs.Catalogue.{Catalogue}
@@ -10,7 +10,7 @@ use Rattle.cm_blocks.specs.Parse.{IsParse}
 use Rattle.cm_blocks.specs.Setting.{setting}
 use Rattle.cm_state.specs.Roles.{field_of}
 use Rattle.cm_state.proofs.Branches.{Begins, Branch, IsBranch, IsOf}
-use Rattle.cm_state.proofs.Ways.{behind_verb}
+use Rattle.cm_state.proofs.Ways.{after_verb}
 use Rattle.ex_grammar.specs.ExecRules.{exec_meanings}
 use Rattle.ex_grammar.specs.Graph.{append_blocks, build_blocks, define_blocks, delete_blocks, directory_nodes, exec_graph, exec_nodes, first_nodes, last_nodes, listing_nodes, print_blocks, retention_nodes, set_blocks, source_nodes, switch_blocks, target_blocks, type_blocks}
 use Rattle.ex_grammar.specs.Tables.{build_entries, command_entries, directory_entries, exec_tables, file_entries, set_entries, switch_entries, topic_entries}
@@ -41,13 +41,13 @@ begins = record {
   one_verb = refl;
 }
 
--- behind such a command the field of the role is read by such a block
-behind : (c : Catalogue) (text : List ℕ) (branch : Branch) → IsBranch exec_graph command_table branch → (fields : List FieldView)
+-- after such a command the field of the role is read by such a block
+after : (c : Catalogue) (text : List ℕ) (branch : Branch) → IsBranch exec_graph command_table branch → (fields : List FieldView)
     (ends : Ending) (verb field : FieldView) → IsParse (setting exec_graph c exec_meanings) COMMANDS text fields ends
     → field_of roles.Verb fields ≡ Some verb → branch.names (keyword_code verb.value) ≡ true
     → field_of branch.role fields ≡ Some field → IsOf (setting exec_graph c exec_meanings) text branch.reads field
-behind c text =
-    behind_verb (setting exec_graph c exec_meanings) COMMANDS command_table begins keyword_code (λ place number. refl) text
+after c text =
+    after_verb (setting exec_graph c exec_meanings) COMMANDS command_table begins keyword_code (λ place number. refl) text
 
 -- CONNECT, EXPUNGE and DEFINE: a directory that is there
 abbrev pub names_old : ℕ → Bool
@@ -73,7 +73,7 @@ old_is = record { none = refl; nodes = refl; commands = refl; other = refl }
 pub old_directory : (c : Catalogue) (text : List ℕ) (fields : List FieldView) (ends : Ending) (verb field : FieldView)
     → IsParse (setting exec_graph c exec_meanings) COMMANDS text fields ends → field_of roles.Verb fields ≡ Some verb
     → names_old (keyword_code verb.value) ≡ true → field_of roles.Files fields ≡ Some field → IsOf (setting exec_graph c exec_meanings) text is_old field
-old_directory c text = behind c text old_branch old_is
+old_directory c text = after c text old_branch old_is
 
 -- COPY and RENAME: files that are made
 abbrev pub names_made : ℕ → Bool
@@ -99,7 +99,7 @@ pub made_target : (c : Catalogue) (text : List ℕ) (fields : List FieldView) (e
     → IsParse (setting exec_graph c exec_meanings) COMMANDS text fields ends → field_of roles.Verb fields ≡ Some verb
     → names_made (keyword_code verb.value) ≡ true → field_of roles.Target fields ≡ Some field
     → IsOf (setting exec_graph c exec_meanings) text is_made field
-made_target c text = behind c text made_branch made_is
+made_target c text = after c text made_branch made_is
 
 -- APPEND: one file
 abbrev pub names_grown : ℕ → Bool
@@ -124,7 +124,7 @@ pub grown_target : (c : Catalogue) (text : List ℕ) (fields : List FieldView) (
     → IsParse (setting exec_graph c exec_meanings) COMMANDS text fields ends → field_of roles.Verb fields ≡ Some verb
     → names_grown (keyword_code verb.value) ≡ true → field_of roles.Target fields ≡ Some field
     → IsOf (setting exec_graph c exec_meanings) text is_one field
-grown_target c text = behind c text grown_branch grown_is
+grown_target c text = after c text grown_branch grown_is
 
 -- TAKE: one file that is there
 abbrev pub names_take : ℕ → Bool
@@ -149,4 +149,4 @@ pub take_file : (c : Catalogue) (text : List ℕ) (fields : List FieldView) (end
     → IsParse (setting exec_graph c exec_meanings) COMMANDS text fields ends → field_of roles.Verb fields ≡ Some verb
     → names_take (keyword_code verb.value) ≡ true → field_of roles.Files fields ≡ Some field
     → IsOf (setting exec_graph c exec_meanings) text is_single field
-take_file c text = behind c text take_branch take_is
+take_file c text = after c text take_branch take_is

@@ -8,7 +8,7 @@ use Rattle.cm_files.specs.LogicalName.{is_logical_name}
 use Rattle.cm_io.specs.declared.sink.Put.{Put}
 use Rattle.cm_io.specs.declared.sink.Put.TheVariants.{Done, Failed}
 use Rattle.cm_io.specs.Fault.{Rose}
-use Rattle.cm_io.specs.Told.{Told, add, AddsPart}
+use Rattle.cm_io.specs.Contents.{Contents, add, AddsPart}
 use Rattle.ex_store.specs.declared.limits.TheConstants.{FORMS, RETENTION_LIMIT}
 use Rattle.ex_store.specs.Plan.{IsOneFile, IsSource, IsTarget, may_be_job}
 use Rattle.ex_store.specs.State.{State, has_directory}
@@ -20,24 +20,24 @@ use Rattle.ex_commands.specs.declared.command.Command.TheVariants as commands
 use Rattle.ex_commands.specs.Effect.{Act}
 
 -- it is done: this is its answer, its whole reply is put, and it leaves its state
-pub record IsDone (before now : Told) (act : Act) (left : State) (answer : Acted) : Type 0 where
+pub record IsDone (before now : Contents) (act : Act) (left : State) (answer : Acted) : Type 0 where
   pub answer_is : act.answer ≡ answer
-  pub told : now ≡ add before act.reply
+  pub contents : now ≡ add before act.reply
   pub state : left ≡ act.state
 
--- memory was wanting where it may be: nothing is put, and nothing changes
-pub record IsLacking (before now : Told) (lacks : Bool) (start left : State) : Type 0 where
+-- memory ran out where it may be: nothing is put, and nothing changes
+pub record IsLacking (before now : Contents) (lacks : Bool) (start left : State) : Type 0 where
   pub may_allocate : lacks ≡ true
-  pub told : now ≡ before
+  pub contents : now ≡ before
   pub state : left ≡ start
 
 -- the reply was cut: a part of it is put, and the act leaves its state all the same
-pub record IsCut (before now : Told) (act : Act) (left : State) : Type 0 where
-  pub told : AddsPart before now act.reply
+pub record IsCut (before now : Contents) (act : Act) (left : State) : Type 0 where
+  pub contents : AddsPart before now act.reply
   pub state : left ≡ act.state
 
--- what the answer says of an act, given whether memory may be wanting for it
-abbrev pub Answers : Told → Told → Act → Bool → State → State → Acted → Type 0
+-- [cut-reply] what the answer says of an act, given whether memory may run out for it
+abbrev pub Answers : Contents → Contents → Act → Bool → State → State → Acted → Type 0
 Answers before now act lacks state left answers.NoMemory = IsLacking before now lacks state left
 Answers before now act lacks state left answers.Failed = IsCut before now act left
 Answers before now act lacks state left answers.Ok = IsDone before now act left answers.Ok

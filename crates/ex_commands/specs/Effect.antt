@@ -1,4 +1,4 @@
--- What a command comes to: what it shows, the state that it leaves, and what it answers.
+-- The outcome of a command: what it shows, the state that it leaves, and what it answers.
 use Rattle.std.specs.Prelude.{ℕ, List, [], Result, Ok, Err}
 use Rattle.std.specs.List.{flat_map}
 use Rattle.cm_fields.specs.declared.code.Code.{Code}

@@ -3,10 +3,10 @@ pub mod Answer
 pub mod Command
 pub mod Commands
 pub mod Effect
+pub mod FileTyping
 pub mod Line
+pub mod NameParts
 pub mod Outcome
 pub mod PrintingBytes
 pub mod Replies
-pub mod Said
 pub mod Texts
-pub mod Typed

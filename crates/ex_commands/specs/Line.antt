@@ -14,12 +14,12 @@ use Rattle.cm_blocks.specs.Grammar.{Graph}
 use Rattle.cm_blocks.specs.FieldView.{FieldView}
 use Rattle.cm_blocks.specs.Words.{no_flags}
 use Rattle.cm_state.specs.Roles.{field_of}
-pub use Rattle.cm_state.specs.Said.{default_of, node_of, said_of}
+pub use Rattle.cm_state.specs.FieldText.{default_of, node_of, said_of}
 use Rattle.ex_store.specs.declared.place.Place.{Place}
 use Rattle.ex_commands.specs.declared.command.Command.{Command}
 use Rattle.ex_commands.specs.declared.command.Command.TheVariants as commands
 
--- a finished line with its fields, the grammar that they are of, and the catalogue that their numbers mean
+-- [command] a finished line with its fields, the grammar that they are of, and the catalogue that their numbers mean
 pub record Line : Type 0 where
   pub graph : Graph
   pub catalogue : Catalogue

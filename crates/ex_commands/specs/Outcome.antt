@@ -15,13 +15,13 @@ pub record Replies {T : Type 0} (s : Ghosts T) (before now : Writer T) (act : Ac
   pub reply : Writes s before now act.reply
   pub state : left ≡ act.state
 
--- memory was wanting where it may be: nothing is written, and nothing changes
+-- memory ran out where it may be: nothing is written, and nothing changes
 pub record IsWanting {T : Type 0} (before now : Writer T) (lacks : Bool) (start left : State) : Type 0 where
   pub may_allocate : lacks ≡ true
   pub unwritten : now ≡ before
   pub state : left ≡ start
 
--- by what it answers, given whether memory may be wanting for it
+-- by what it answers, given whether memory may run out for it
 abbrev pub Outcome : {T : Type 0} → Ghosts T → Writer T → Writer T → Act → Bool → State → State → Acted → Type 0
 Outcome s before now act lacks state left answers.NoMemory = IsWanting before now lacks state left
 Outcome s before now act lacks state left answers.Failed = ⊥

@@ -1,6 +1,6 @@
 -- Bytes that are shown as they are.
 use Rattle.std.specs.Prelude.{ℕ, ◌==◌, Bool, List, [], ◌∷◌}
-use Rattle.cm_text.specs.Shown.{printing_byte}
+use Rattle.cm_text.specs.ScreenBytes.{printing_byte}
 
 abbrev pub is_printing : ℕ → Bool
 is_printing byte = printing_byte byte == byte

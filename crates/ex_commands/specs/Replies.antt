@@ -3,7 +3,7 @@ use Rattle.std.specs.Prelude.{ℕ, ◌/◌, ◌==◌, ℤ, pos, int_le, int_lt, 
 use Rattle.std.specs.Fmt.{decimal}
 use Rattle.std.specs.List.{last_or}
 use Rattle.std.specs.Option.{option_map_or}
-use Rattle.cm_text.specs.Shown.{end_of_line}
+use Rattle.cm_text.specs.ScreenBytes.{end_of_line}
 use Rattle.cm_dates.specs.DayText.{day_text}
 use Rattle.ex_generations.specs.declared.file.File.{File}
 use Rattle.ex_generations.specs.Generations.{page_count}
@@ -31,7 +31,7 @@ directory_text directory = left_angle ++ directory ++ right_angle
 unfoldable pub full_text : FullName → List ℕ
 full_text full = directory_text full.key.directory ++ file_text full
 
--- what stands behind what is done, ` [OK]`
+-- what stands after what is done, ` [OK]`
 unfoldable pub done_text : List ℕ
 done_text = done_mark ++ end_of_line
 

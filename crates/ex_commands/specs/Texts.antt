@@ -83,7 +83,7 @@ after_mark = codes " /AFTER:"
 unfoldable pub note_mark : List ℕ
 note_mark = codes " /NOTE:\""
 
--- behind a note
+-- after a note
 unfoldable pub quote : List ℕ
 quote = codes "\""
 

@@ -31,14 +31,15 @@ use ex_store::Store;
 /// is to be put is put, and the command has acted all the same. No memory is taken but through the store.
 pub fn act<S: Sink>(store: &mut Store, command: &Command, moment: u64, sink: &mut S) -> Acted
     requires { MayAct command.now store.old.state }
-    ensures acts { Answers (S.told sink.old) (S.told sink.new) (act_of command.now moment store.old.state)
+    // [cut-reply]
+    ensures acts { Answers (S.contents sink.old) (S.contents sink.new) (act_of command.now moment store.old.state)
         (may_allocate command.now) store.old.state store.new.state result }
     ensures later { S.faults sink.old ≤ S.faults sink.new }
     ensures cause { ActCause (S.faults sink.old) (S.faults sink.new) result }
 {
     let mut out = Writer::new(sink);
     let answer = do_command(store, command, moment, &mut out);
-    answer_by(answer, out.went())
+    answer_by(answer, out.outcome())
 }
 
 // Does a command, and writes the reply to it.
@@ -108,7 +109,7 @@ fn do_command<S: Sink>(
     }
 }
 
-/// Refuses a command with this code: puts why, and answers so. In every state that is what an act comes to that
+/// Refuses a command with this code: puts why, and answers so. In every state that is the outcome of an act that
 /// refuses.
 pub fn refuse<S: Sink>(code: Code, out: &mut Writer<'_, S>) -> Acted
     ensures { (state : State) → (lacks : Bool) → Outcome S.Sink out.old out.new

@@ -2,12 +2,12 @@
 use cm_text::Name;
 use ex_store::Place;
 
-/// What a confirmed line commands. Behind a line that ends in a comma, subcommands follow (`sub`).
+/// What a confirmed line commands. After a line that ends in a comma, subcommands follow (`sub`).
 #[derive(Debug, Drop)]
 pub enum Command {
     /// Nothing: the line has no field.
     Empty,
-    /// APPEND: to put the bytes of files behind those of one file.
+    /// APPEND: to put the bytes of files after those of one file.
     Append {
         from: Place,
         to: Place,

@@ -1,10 +1,10 @@
 // A file that is typed in.
 ghost use Rattle.std.specs.Prelude.{◌≡◌, ◌+◌, ◌-◌, ◌≤◌, [], length, slice_get, vec_capacity, IfOk};
 ghost use Rattle.cm_io.specs.Fault.{PutCause};
-ghost use Rattle.cm_io.specs.Told.{Adds};
+ghost use Rattle.cm_io.specs.Contents.{Adds};
 ghost use Rattle.ex_generations.specs.declared.file.TheConstants.{FILE_LIMIT};
 ghost use Rattle.cm_io.specs.Writer.{Writes};
-ghost use Rattle.ex_commands.specs.Typed.{adding, bytes_behind, bytes_by, echo_of, echo_text, rubbing, size_of, turn_of};
+ghost use Rattle.ex_commands.specs.FileTyping.{adding, bytes_after, bytes_by, echo_of, echo_text, rubbing, size_of, turn_of};
 
 use cm_io::{NoMemory, Put, Sink, Writer};
 use cm_text::{bell, control_c, end_of_line, rubout, screen_byte};
@@ -39,7 +39,7 @@ impl Model for Data {
     ghost invariant = { λ it. (length it.bytes.items ≤ FILE_LIMIT) × (FILE_LIMIT ≤ vec_capacity it.bytes) };
 }
 
-/// What a key comes to while a file is typed in.
+/// The outcome of a key while a file is typed in.
 #[derive(Clone, Copy, Debug, PartialEq, Eq)]
 pub enum DataTurn {
     /// The typing goes on.
@@ -93,22 +93,22 @@ impl Data {
 
     /// Puts what a key shows, and does nothing yet. A key that has no effect rings the bell.
     pub fn echo<S: Sink>(&self, key: u8, sink: &mut S) -> Put
-        ensures bytes { Adds (S.told sink.old) (S.told sink.new) (echo_text (echo_of self.now key)) result }
+        ensures bytes { Adds (S.contents sink.old) (S.contents sink.new) (echo_text (echo_of self.now key)) result }
         ensures later { S.faults sink.old ≤ S.faults sink.new }
         ensures cause { PutCause (S.faults sink.old) (S.faults sink.new) result }
     {
         let mut out = Writer::new(sink);
         put_echo(echo_of(&self.bytes, key), &mut out);
-        out.went()
+        out.outcome()
     }
 
     /// Takes one key. A text byte or TAB is put in, CR or LF puts in CR and LF; what has no room in a file puts nothing
     /// in. DEL takes the last byte away, but no end of a line.
     ///
-    /// The answer is Write exactly at control-Z and Dropped exactly at control-C, behind which there is nothing any
+    /// The answer is Write exactly at control-Z and Dropped exactly at control-C, after which there is nothing any
     /// more; every other key has no effect.
     pub fn take(&mut self, key: u8) -> DataTurn
-        ensures bytes { self.new ≡ bytes_behind self.old key }
+        ensures bytes { self.new ≡ bytes_after self.old key }
         ensures turn { result ≡ turn_of (echo_of self.old key) }
     {
         let echo = echo_of(&self.bytes, key);
@@ -156,7 +156,7 @@ fn rub(bytes: &[u8]) -> Echo
 }
 
 // What is shown for a key.
-#[tactic(auto, unfolding(crate::specs::Typed::echo_of))]
+#[tactic(auto, unfolding(crate::specs::FileTyping::echo_of))]
 fn echo_of(bytes: &[u8], key: u8) -> Echo
     requires { length bytes.now ≤ FILE_LIMIT }
     ensures echo { result ≡ echo_of bytes.now key }
@@ -198,7 +198,7 @@ fn put_in(bytes: &mut Vec<u8>, echo: Echo)
 }
 
 // Puts what is shown for a key.
-#[tactic(auto, unfolding(crate::specs::Typed::echo_text))]
+#[tactic(auto, unfolding(crate::specs::FileTyping::echo_text))]
 fn put_echo<S: Sink>(echo: Echo, out: &mut Writer<'_, S>)
     ensures { Writes S.Sink out.old out.new (echo_text echo) }
 {
@@ -212,7 +212,7 @@ fn put_echo<S: Sink>(echo: Echo, out: &mut Writer<'_, S>)
     }
 }
 
-// What a key comes to that is shown so.
+// The outcome of a key that is shown so.
 fn turn_of(echo: Echo) -> DataTurn
     ensures { result ≡ turn_of echo }
 {

@@ -3,7 +3,7 @@ ghost use Rattle.std.specs.Prelude.{◌≡◌, option_copied, is_some};
 ghost use Rattle.cm_blocks.specs.declared.function.Role.TheVariants as roles;
 ghost use Rattle.cm_state.specs.Roles.{field_of};
 ghost use Rattle.ex_commands.specs.Line.{both, code_in, count_by, count_in, day_by, directory_in, keyword_code, last_at, place_in};
-ghost use Rattle.ex_commands.specs.Said.{IsReadable, IsSaid, IsSaidIn, line_of};
+ghost use Rattle.ex_commands.specs.NameParts.{IsReadable, IsSaid, IsSaidIn, line_of};
 
 use crate::place::{directory_by, flags_of, place_by};
 use cm_blocks::{Field, Grammar, Role};

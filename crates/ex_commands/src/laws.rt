@@ -107,13 +107,13 @@ pub fn a_line_takes_one_file()
         → (row : Row) × (sources file state ≡ row ∷ []) }
 {}
 
-/// A file is typed in behind COPY TTY: alone.
+/// A file is typed in after COPY TTY: alone.
 pub fn only_copy_from_the_terminal_begins_a_file()
     ensures { (command : Command) (moment : ℕ) (state : State)
         → (act_of command moment state).answer ≡ answers.Data → (to : Place) × (command ≡ commands.CopyTty to) }
 {}
 
-/// The lines of a file are taken behind TAKE alone.
+/// The lines of a file are taken after TAKE alone.
 pub fn only_take_begins_a_command_file()
     ensures { (command : Command) (moment : ℕ) (state : State)
         → ((act_of command moment state).answer ≡ answers.Take) ↔ ((file : Place) × (command ≡ commands.Take file)) }

@@ -9,7 +9,7 @@ ghost use Rattle.ex_grammar.specs.ExecRules.{exec_meanings};
 ghost use Rattle.ex_grammar.specs.Graph.{exec_graph};
 ghost use Rattle.ex_grammar.specs.declared.node.TheConstants.{COMMANDS};
 ghost use Rattle.ex_commands.specs.Command.{added, command_of, complete, extended, named, subcommand_node, with_sub};
-ghost use Rattle.ex_commands.specs.Said.{IsReadable, IsSaidIn, line_of};
+ghost use Rattle.ex_commands.specs.NameParts.{IsReadable, IsSaidIn, line_of};
 
 use crate::Command;
 use crate::commands::build::retention_with;
@@ -35,6 +35,7 @@ impl Command {
         requires exec { grammar.now ≡ exec_graph }
         requires parse { IsParse (setting exec_graph (N.catalogue names.now) exec_meanings) COMMANDS
             (text_of session.now) session.now.fields ending.Done }
+        // [command]
         ensures { result ≡ command_of (record {
           graph = exec_graph;
           catalogue = N.catalogue names.now;
@@ -65,7 +66,7 @@ impl Command {
         true
     }
 
-    /// Waits for no more subcommands, as behind an empty line of them.
+    /// Waits for no more subcommands, as after an empty line of them.
     pub fn complete(&mut self)
         ensures { self.new ≡ complete self.old }
     {

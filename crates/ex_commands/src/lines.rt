@@ -6,7 +6,7 @@ ghost use Rattle.std.specs.List.{flat_map, list_all};
 ghost use Rattle.cm_io.specs.Writer.{Writes};
 ghost use Rattle.ex_generations.specs.declared.file.TheConstants.{FILE_LIMIT};
 ghost use Rattle.ex_store.specs.declared.limits.TheConstants.{MOMENT_LIMIT, ROW_LIMIT};
-ghost use Rattle.ex_store.specs.Lent.{row_of_view};
+ghost use Rattle.ex_store.specs.Views.{row_of_view};
 ghost use Rattle.ex_store.specs.Plan.{sources};
 ghost use Rattle.ex_store.specs.WellFormed.{is_reading, is_row_among};
 ghost use Rattle.ex_commands.specs.Replies.{changed_line, day_number, day_of, ends_line, heading, held_text, is_within, line_of, listed_line, measures_text, read_day, shown_day, total_line};

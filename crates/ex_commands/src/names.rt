@@ -3,7 +3,7 @@
 
 ghost use Rattle.std.specs.Prelude.{◌≡◌};
 ghost use Rattle.cm_io.specs.Writer.{Writes};
-ghost use Rattle.ex_store.specs.Lent.{full_name, row_of_view};
+ghost use Rattle.ex_store.specs.Views.{full_name, row_of_view};
 ghost use Rattle.ex_store.specs.Rows.{full_of};
 ghost use Rattle.ex_commands.specs.Replies.{directory_text, file_text, full_text};
 

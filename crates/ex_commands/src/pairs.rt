@@ -3,7 +3,7 @@
 
 ghost use Rattle.std.specs.List.{flat_map};
 ghost use Rattle.cm_io.specs.Writer.{Writes};
-ghost use Rattle.ex_store.specs.Lent.{full_name, name_pair};
+ghost use Rattle.ex_store.specs.Views.{full_name, name_pair};
 ghost use Rattle.ex_commands.specs.Replies.{origin_line, pair_line, queued_line, typed_line};
 
 use crate::names::put_full;

@@ -4,7 +4,7 @@ ghost use Rattle.std.specs.Option.{option_map};
 ghost use Rattle.std.specs.Str.{IsAscii};
 ghost use Rattle.cm_text.specs.declared.name.TheConstants.{NAME_LIMIT};
 ghost use Rattle.ex_commands.specs.Line.{block_of, directory_by, directory_name, flags_of, place_by, upper};
-ghost use Rattle.ex_commands.specs.Said.{IsSaid, IsShort};
+ghost use Rattle.ex_commands.specs.NameParts.{IsSaid, IsShort};
 
 use cm_blocks::{Block, Field, Grammar, Node};
 use cm_fields::{Span, Value};

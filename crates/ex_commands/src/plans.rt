@@ -73,12 +73,12 @@ pub fn write_data<S: Sink>(
     sink: &mut S,
 ) -> Acted
     requires { IsTarget to.now store.old.state.directories }
-    ensures acts { Answers (S.told sink.old) (S.told sink.new) (writes to.now typed moment store.old.state) true
+    ensures acts { Answers (S.contents sink.old) (S.contents sink.new) (writes to.now typed moment store.old.state) true
         store.old.state store.new.state result }
     ensures later { S.faults sink.old ≤ S.faults sink.new }
     ensures cause { ActCause (S.faults sink.old) (S.faults sink.new) result }
 {
     let mut out = Writer::new(sink);
     let answer = write(store, to, typed, moment, &mut out);
-    answer_by(answer, out.went())
+    answer_by(answer, out.outcome())
 }

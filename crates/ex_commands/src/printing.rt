@@ -1,7 +1,7 @@
 // Bytes as they are shown: each that does not print as a dot.
 ghost use Rattle.std.specs.Prelude.{◌≡◌, ◌≤◌, map, drop, length};
 ghost use Rattle.std.specs.List.{prefix_len};
-ghost use Rattle.cm_text.specs.Shown.{printing_byte};
+ghost use Rattle.cm_text.specs.ScreenBytes.{printing_byte};
 ghost use Rattle.cm_io.specs.Writer.{Writes};
 ghost use Rattle.ex_commands.specs.PrintingBytes.{first_shown, is_printing};
 
@@ -23,7 +23,7 @@ fn printing_len(bytes: &[u8]) -> usize
     bytes.iter().take_while(|byte| is_printing(**byte)).count()
 }
 
-// Puts the first byte as it is shown, if there is one, and gives what stands behind it.
+// Puts the first byte as it is shown, if there is one, and gives what stands after it.
 fn put_first<'a, S: Sink>(bytes: &'a [u8], out: &mut Writer<'_, S>) -> &'a [u8]
     ensures rest { result.now ≡ drop 1 bytes.now }
     ensures written { Writes S.Sink out.old out.new (first_shown bytes.now) }

@@ -26,7 +26,7 @@ pub(crate) fn left_angle() -> &'static [u8]
     b"<"
 }
 
-/// Behind the name of a directory.
+/// After the name of a directory.
 #[tactic(auto, unfolding(crate::specs::Texts::right_angle))]
 pub(crate) fn right_angle() -> &'static [u8]
     ensures { result.now ≡ right_angle }
@@ -74,7 +74,7 @@ pub(crate) fn total_of() -> &'static [u8]
     b" Total of "
 }
 
-/// Behind the number of files in a listing.
+/// After the number of files in a listing.
 #[tactic(auto, unfolding(crate::specs::Texts::files_counted))]
 pub(crate) fn files_counted() -> &'static [u8]
     ensures { result.now ≡ files_counted }
@@ -98,7 +98,7 @@ pub(crate) fn pages_freed() -> &'static [u8]
     b" [Pages freed: "
 }
 
-/// Behind the number of pages that were freed.
+/// After the number of pages that were freed.
 #[tactic(auto, unfolding(crate::specs::Texts::right_bracket))]
 pub(crate) fn right_bracket() -> &'static [u8]
     ensures { result.now ≡ right_bracket }
@@ -202,7 +202,7 @@ pub(crate) fn note_mark() -> &'static [u8]
     b" /NOTE:\""
 }
 
-/// Behind its note.
+/// After its note.
 #[tactic(auto, unfolding(crate::specs::Texts::quote))]
 pub(crate) fn quote() -> &'static [u8]
     ensures { result.now ≡ quote }

@@ -36,7 +36,7 @@ fn files_are_copied_to_another_directory(rt: HostRuntime) {
 }
 
 #[test]
-fn a_copy_behind_the_last_generation_is_refused(rt: HostRuntime) {
+fn a_copy_after_the_last_generation_is_refused(rt: HostRuntime) {
     run(
         &rt,
         "WRITE A.TXT.131071 text
@@ -56,7 +56,7 @@ fn a_copy_onto_a_file_is_refused(rt: HostRuntime) {
 }
 
 #[test]
-fn files_are_put_behind_one(rt: HostRuntime) {
+fn files_are_put_after_one(rt: HostRuntime) {
     run(
         &rt,
         "WRITE A.TXT HI^M^J
@@ -395,6 +395,7 @@ fn the_run_ends_with_no_marked_file(rt: HostRuntime) {
     );
 }
 
+// [cut-reply]
 #[test]
 fn a_cut_reply_undoes_no_command(rt: HostRuntime) {
     run(
@@ -420,7 +421,7 @@ fn what_is_typed_out_is_cut(rt: HostRuntime) {
 }
 
 #[test]
-fn files_are_put_behind_one_though_a_reply_is_cut(rt: HostRuntime) {
+fn files_are_put_after_one_though_a_reply_is_cut(rt: HostRuntime) {
     run(
         &rt,
         "WRITE A.TXT.1 text

@@ -2,12 +2,12 @@
 use std::alloc::{AllocError, Global};
 use std::process::Abort;
 
-// What stands before the first bar, and what stands behind it.
+// What stands before the first bar, and what stands after it.
 pub(crate) fn cut(text: &str) -> (&str, &str) {
     text.split_once('|').unwrap_or((text, ""))
 }
 
-// What stands before the first space, and what stands behind it.
+// What stands before the first space, and what stands after it.
 pub(crate) fn word(text: &str) -> (&str, &str) {
     text.split_once(' ').unwrap_or((text, ""))
 }

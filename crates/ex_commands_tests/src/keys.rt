@@ -5,7 +5,7 @@ use ex_commands::{Data, DataTurn};
 use ex_generations::FILE_LIMIT;
 use std::process::Abort;
 
-// What the keys come to: the last turn, the bytes, and what is shown.
+// The outcome of the keys: the last turn, the bytes, and what is shown.
 fn is_typed(
     rt: &(impl Abort + AllocGlobal),
     turn: DataTurn,
@@ -21,7 +21,7 @@ fn is_typed(
     are_bytes(rt, sink.bytes(), shown);
 }
 
-/// Presses keys one after the other: what the last comes to.
+/// Presses keys one after the other: the outcome of the last.
 pub(crate) fn press(typed: &mut Data, keys: &[u8], sink: &mut MemSink) -> DataTurn {
     let mut turn = DataTurn::More;
     for key in keys {
@@ -39,7 +39,7 @@ fn types(rt: &(impl Abort + AllocGlobal), keys: &[u8], room: u32, wanted: &str) 
     is_typed(rt, turn, &typed, &sink, wanted);
 }
 
-// A case: the keys, and what they come to.
+// A case: the keys, and their outcome.
 fn types_line(rt: &(impl Abort + AllocGlobal), room: u32, line: &str) {
     let (keys, wanted) = cut(line);
     let keys = bytes_of(rt.alloc(), keys).expect(rt, "memory");

@@ -62,7 +62,7 @@ fn is_target(to: &Place, parts: &Parts<'_>) -> bool
     parts.has_directory(to.directory.as_str()) && name && kind && generation
 }
 
-// Whether bytes can be put behind the file of a place.
+// Whether bytes can be put after the file of a place.
 fn is_one_file(to: &Place, parts: &Parts<'_>) -> bool
     ensures { result ≡ true → IsOneFile to.now parts.now.directories }
 {
@@ -96,7 +96,7 @@ pub(crate) fn takes(store: &Store, to: &Place) -> bool
     is_target(to, &store.parts())
 }
 
-// Whether bytes can be put behind the file of a place.
+// Whether bytes can be put after the file of a place.
 fn grows(store: &Store, to: &Place) -> bool
     ensures { result ≡ true → IsOneFile to.now store.now.state.directories }
 {

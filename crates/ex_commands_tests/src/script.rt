@@ -38,12 +38,12 @@ fn generation(text: &str) -> Gen {
     }
 }
 
-// What is before and behind a point.
+// What is before and after a point.
 fn parts(text: &str) -> (&str, &str) {
     text.split_once('.').unwrap_or((text, ""))
 }
 
-// A file: NAME.TYPE or NAME.TYPE.GENERATION, behind - where it is marked as deleted, and then behind <SMITH> where it
+// A file: NAME.TYPE or NAME.TYPE.GENERATION, after - where it is marked as deleted, and then after <SMITH> where it
 // is not of OPERATOR.
 fn place(text: &str) -> Place {
     let (flags, text) = match text.strip_prefix('-') {
@@ -73,13 +73,13 @@ fn name_or_none(text: &str) -> Option<Name> {
     }
 }
 
-// The day behind a sign, as a number, where it stands in the text.
+// The day after a sign, as a number, where it stands in the text.
 fn day(text: &str, sign: &str) -> Option<i32> {
     let (_, rest) = text.split_once(sign)?;
     word(rest).0.parse().ok()
 }
 
-// PRINT of files, behind which stand the copies, the form and the note, each behind a space.
+// PRINT of files, after which stand the copies, the form and the note, each after a space.
 fn print(files: &str, text: &str) -> Command {
     let (copies, text) = word(text);
     let (form, note) = word(text);
@@ -93,8 +93,8 @@ fn print(files: &str, text: &str) -> Command {
     }
 }
 
-// A command: its verb, and the files or the name that it is for. Behind the files of DIRECTORY stand the days, as
-// SINCE=1 BEFORE=2, and DELETED, READ and a comma; behind those of SET how many generations are kept.
+// A command: its verb, and the files or the name that it is for. After the files of DIRECTORY stand the days, as
+// SINCE=1 BEFORE=2, and DELETED, READ and a comma; after those of SET how many generations are kept.
 fn command(text: &str) -> Command {
     let (verb, rest) = word(text);
     let (first, second) = word(rest);
@@ -177,7 +177,7 @@ fn does(
     is_answered(rt, answer, &sink, wanted);
 }
 
-// BUILD SMITH, behind which stand how many generations are kept, and a comma.
+// BUILD SMITH, after which stand how many generations are kept, and a comma.
 #[tactic(auto, unfolding(cm_text::specs::Bytes::is_name, cm_text::specs::Bytes::is_word))]
 fn build(rt: &(impl Abort + AllocGlobal), store: &mut Store, text: &str, wanted: &str) {
     let (_, text) = word(text);
@@ -216,7 +216,7 @@ fn type_in(
     is_answered(rt, answer, &sink, wanted);
 }
 
-// The bytes of a file: as they stand, or X and behind an asterisk how many of it.
+// The bytes of a file: as they stand, or X and after an asterisk how many of it.
 fn contents(alloc: Global, text: &str) -> Result<Vec<u8>, AllocError> {
     match text.split_once('*') {
         Some((_, size)) => vec![in alloc; b'X'; number(size) as usize],
@@ -310,7 +310,7 @@ fn is_connected(rt: &(impl Abort + AllocGlobal), store: &Store, wanted: &str) {
     assert_eq!(rt; found.as_str(), wanted);
 }
 
-// The number before a sign, and what is behind it; where the sign is not there, the usual number.
+// The number before a sign, and what is after it; where the sign is not there, the usual number.
 fn number_before<'a>(text: &'a str, sign: char, usual: u64) -> (u64, &'a str) {
     match text.split_once(sign) {
         Some((digits, rest)) => (number(digits), rest),
@@ -319,7 +319,7 @@ fn number_before<'a>(text: &'a str, sign: char, usual: u64) -> (u64, &'a str) {
 }
 
 // Does one line. It begins with the moment where that is not 0, as 86400:, and with the room of the screen where that
-// is scarce, as 13#. What is wanted stands behind a bar: the answer, and behind another bar what is shown.
+// is scarce, as 13#. What is wanted stands after a bar: the answer, and after another bar what is shown.
 fn do_line(rt: &(impl Abort + AllocGlobal), store: &mut Store, line: &str) {
     let (line, wanted) = cut(line);
     let (moment, line) = number_before(line, ':', 0);
@@ -345,7 +345,7 @@ fn do_line(rt: &(impl Abort + AllocGlobal), store: &mut Store, line: &str) {
     }
 }
 
-/// The store behind a script.
+/// The store after a script.
 pub(crate) fn run(rt: &(impl Abort + AllocGlobal), script: &str) -> Store {
     let mut store = Store::new(rt.alloc()).expect(rt, "memory");
     for line in script.lines() {

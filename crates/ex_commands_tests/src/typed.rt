@@ -117,7 +117,7 @@ fn add_sub<L: Ledger>(
     }
 }
 
-/// Puts a letter for each flag, behind a space.
+/// Puts a letter for each flag, after a space.
 pub(crate) fn put_flags(text: &mut String, flags: Flags) -> Result<(), AllocError> {
     if flags != Flags::default() {
         text.push(' ')?;
@@ -280,7 +280,7 @@ fn is_command(rt: &(impl Abort + AllocGlobal), command: &Command, wanted: &str) 
     assert_eq!(rt; text.as_str(), wanted);
 }
 
-// Types lines over a store: each is a case, with what it commands. Its subcommand lines stand behind it, each behind a
+// Types lines over a store: each is a case, with what it commands. Its subcommand lines stand after it, each after a
 // tilde; the last of them has no field where the command is to wait no more. The counter wants the runtime itself.
 fn try_lines<L: Ledger, A: Abort + AllocGlobal>(
     rt: &A,
@@ -322,6 +322,7 @@ fn try_lines<L: Ledger, A: Abort + AllocGlobal>(
     Ok(())
 }
 
+// [command]
 #[test]
 fn a_line_means_files_and_names(rt: HostRuntime) -> Result<(), Fail> {
     let store = run(&rt, "1:WRITE A.TXT.2");

@@ -1,4 +1,4 @@
--- The index of labels.
+-- [label] The index of labels.
 -- The index is made from the last line to the first; its invariant, position_from with the place as its first number,
 -- closes alone.
 use Rattle.std.proofs.Common.{◌≡◌, ℕ, List, Some, ap, ◌∙◌}

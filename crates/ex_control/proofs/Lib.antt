@@ -1,2 +1,2 @@
-mod LabelNames
 mod LabelIndex
+mod LabelNames

@@ -22,7 +22,7 @@ label_of line = label_in (control_of line)
 abbrev pub has_label : List ℕ → List ℕ → Bool
 has_label name line = option_map_or (λ (label : List ℕ). equals label name) (label_of line) false
 
--- the place of the first line that is this label
+-- [label] the place of the first line that is this label
 unfoldable pub place_of : List ℕ → List (List ℕ) → Option ℕ
 place_of name lines = position_from (has_label name) 0 lines
 

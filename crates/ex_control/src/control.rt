@@ -49,8 +49,8 @@ fn begins_at(byte: u8, line: &[u8]) -> bool
     }
 }
 
-// What stands behind as many bytes as a word has.
-fn behind<'a>(word: &[u8], line: &'a [u8]) -> &'a [u8]
+// What stands after as many bytes as a word has.
+fn after<'a>(word: &[u8], line: &'a [u8]) -> &'a [u8]
     ensures { result.now ≡ drop (length word.now) line.now }
 {
     &line[word.len().min(line.len())..]
@@ -75,10 +75,10 @@ pub fn is_label_name(name: &[u8]) -> bool
 fn is_goto(line: &[u8]) -> bool
     ensures { result ≡ is_goto line.now }
 {
-    begins_with(line, goto_word()) && is_label_name(behind(goto_word(), line))
+    begins_with(line, goto_word()) && is_label_name(after(goto_word(), line))
 }
 
-// Whether a line is one of the EXEC's, behind its `@`.
+// Whether a line is one of the EXEC's, after its `@`.
 fn is_exec(line: &[u8]) -> bool
     ensures { result ≡ is_exec line.now }
 {
@@ -92,10 +92,10 @@ fn order_of(line: &[u8]) -> Order<'_>
     ensures named { IsNamed (order_view result) }
 {
     if is_goto(line) {
-        return Order::Goto(behind(goto_word(), line));
+        return Order::Goto(after(goto_word(), line));
     }
     if is_exec(line) {
-        return Order::Exec(behind(b"@", line));
+        return Order::Exec(after(b"@", line));
     }
     Order::Bad
 }
@@ -110,11 +110,11 @@ fn is_nothing(line: &[u8]) -> bool
     }
 }
 
-// Whether a line begins with a condition, and goes on with an order behind it.
+// Whether a line begins with a condition, and goes on with an order after it.
 fn is_condition(word: &[u8], line: &[u8]) -> bool
     ensures { result ≡ is_condition word.now line.now }
 {
-    begins_with(line, word) && begins_at(b'@', behind(word, line))
+    begins_with(line, word) && begins_at(b'@', after(word, line))
 }
 
 // A line without its last two bytes.
@@ -150,13 +150,13 @@ pub fn control_of(line: &[u8]) -> Control<'_>
     if is_condition(if_error(), line) {
         return Control::Condition {
             error: true,
-            order: order_of(behind(if_error(), line)),
+            order: order_of(after(if_error(), line)),
         };
     }
     if is_condition(if_no_error(), line) {
         return Control::Condition {
             error: false,
-            order: order_of(behind(if_no_error(), line)),
+            order: order_of(after(if_no_error(), line)),
         };
     }
     if is_label(line) {

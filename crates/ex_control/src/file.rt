@@ -97,6 +97,7 @@ impl ControlFile {
     #[tactic(auto, unfolding(crate::specs::Labels::IsIndex, crate::specs::Labels::place_of))]
     pub fn place(&self, name: &[u8]) -> Option<usize>
         requires { is_label_name name.now ≡ true }
+        // [label]
         ensures { result ≡ place_of name.now self.now }
     {
         place_in(&self.labels, name)

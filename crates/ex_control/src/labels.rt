@@ -41,7 +41,7 @@ fn kept(name: &[u8]) -> Name
     kept
 }
 
-// Has a line, where it is a label, stand at its place, and at no place behind it.
+// Has a line, where it is a label, stand at its place, and at no place after it.
 #[tactic(auto, using(crate::proofs::LabelNames::name_short))]
 fn note(labels: &mut IndexMap<Name, usize>, line: &[u8], place: usize) -> Result<(), NoMemory>
     ensures { OnOk result ((name : List ℕ) → lookup (bytes_eq (kept name)) labels.new.entries

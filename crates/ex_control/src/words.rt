@@ -34,7 +34,7 @@ pub(crate) fn goto_word() -> &'static [u8]
     b"@GOTO "
 }
 
-/// Behind the name of a label.
+/// After the name of a label.
 #[tactic(auto, unfolding(crate::specs::Control::colons))]
 pub(crate) fn colons() -> &'static [u8]
     ensures { result.now ≡ colons }

@@ -43,7 +43,7 @@ IsAscending-drop (file ∷ more) low zero a = a
 IsAscending-drop (file ∷ more) low (suc i) a =
     IsAscending-from_lower (drop i more) low file.generation (omega (arith, a.0)) (IsAscending-drop more file.generation i a.3)
 
--- the file at a place, and those behind it
+-- the file at a place, and those after it
 pub IsAscending-at : (files : List File) (i : ℕ) (d : File) → IsAscending 0 files → i < length files → IsAscending 0 (get_or files i d ∷ drop (i + 1) files)
 IsAscending-at files i d a lt = subst (IsAscending 0) (drop_more files i d lt) (IsAscending-drop files 0 i a)
 

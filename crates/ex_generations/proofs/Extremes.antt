@@ -1,4 +1,4 @@
--- The lowest and the highest of files whose generations ascend: the first and the last.
+-- [next-generation] The lowest and the highest of files whose generations ascend: the first and the last.
 use Rattle.std.proofs.Common.{◌≡◌, ℕ, ◌+◌, ◌-◌, ◌<◌, ◌≤◌, suc, zero, max, min, Bool, true, false, not, List, [], ◌∷◌, length, get_or, drop, Option, Some, unwrap_or, refl, sym, ap, subst, ◌∙◌, arith}
 use Rattle.std.proofs.lemmas.Bool.{ne_eqb, or_from}
 use Rattle.std.proofs.lemmas.List.{at_drop_more}

@@ -57,8 +57,8 @@ none_at generation (first ∷ more) at a place other =
     (λ lt. absurd (omega arith)) in
     sym (ap (λ n. cond (nat_lt n (length (first ∷ more))) (Some n) None) size ∙ ap (λ b. cond b (Some (length (first ∷ more))) None) (le-ltb _ _ (omega arith)))
   where
-    behind : (k : ℕ) → at ≤ k → k < length (first ∷ more) → is_generation generation (get_or (first ∷ more) k first) ≡ false
-    behind k from within =
+    after : (k : ℕ) → at ≤ k → k < length (first ∷ more) → is_generation generation (get_or (first ∷ more) k first) ≡ false
+    after k from within =
         let stops : nat_lt (get_or (first ∷ more) at first).generation generation ≡ false =
         subst (λ (n : ℕ). nat_lt (get_or (first ∷ more) n first).generation generation ≡ false) (sym place) (prefix_len_stops (is_lower generation) (first ∷ more) first (omega arith)) in
         let least : generation ≤ (get_or (first ∷ more) at first).generation = ltb-false _ _ stops in
@@ -68,8 +68,8 @@ none_at generation (first ∷ more) at a place other =
         ne_eqb _ _ (λ same. apart (omega arith))
 
     differs : (k : ℕ) → k < length (first ∷ more) → (at ≡ k) ⊎ ((at < k) ⊎ (k < at)) → is_generation generation (get_or (first ∷ more) k first) ≡ false
-    differs k within (inl same) = behind k (omega arith) within
-    differs k within (inr (inl above)) = behind k (omega arith) within
+    differs k within (inl same) = after k (omega arith) within
+    differs k within (inr (inl above)) = after k (omega arith) within
     differs k within (inr (inr below)) =
         let lower : (get_or (first ∷ more) k first).generation < generation =
         ltb-true _ _ (prefix_len_passes (is_lower generation) (first ∷ more) k first (omega arith)) in

@@ -1,4 +1,4 @@
--- What stands in a list of files behind a filter, and beside a file that is added.
+-- [retention] What stands in a list of files after a filter, and beside a file that is added.
 use Rattle.std.proofs.Common.{◌≡◌, ℕ, ◌<◌, ◌≤◌, max, true, false, not, List, [], ◌∷◌, ◌++◌, filter, find, nat_lt, Contains, Some, unwrap_or, refl, ap, ◌⊎◌, inl, inr, arith}
 use Rattle.std.specs.Option.{option_map_or}
 use Rattle.std.proofs.lemmas.Bool.{eq-eqb, eqb-false, le-ltb, lt-ltb, ne_eqb, not-true, not_from_false, or_parts}
@@ -7,7 +7,7 @@ use Rattle.cm_lists.proofs.Numbers.{cases_ne}
 use Rattle.cm_lists.proofs.Options.{max_parts}
 use Rattle.ex_generations.specs.declared.file.File.{File}
 use Rattle.ex_generations.specs.Generations.{IsAscending, has, highest, inserted, is_generation, next_generation, unmarked, without}
-use Rattle.ex_generations.proofs.Places.{inserted-before, inserted-behind}
+use Rattle.ex_generations.proofs.Places.{inserted-after, inserted-before}
 
 pub Contains-unmarked : (file : File) (files : List File) → (Contains (unmarked files) file → Contains files file × (file.deleted ≡ false)) × (Contains files file × (file.deleted ≡ false) → Contains (unmarked files) file)
 Contains-unmarked file files = (there, back) where
@@ -51,8 +51,8 @@ pub record IsAmong (file : File) (files : List File) : Type 0 where
 among-step : (new file : File) (more : List File) (low : ℕ) → IsAscending low (file ∷ more) → has new.generation (file ∷ more) ≡ false → IsAmong new more → (file.generation < new.generation) ⊎ (new.generation < file.generation) → IsAmong new (file ∷ more)
 among-step new file more low a none rest (inl less) =
     record {
-      others = rw (inserted-behind new file more less, ne_eqb file.generation new.generation (omega arith)) (ap (λ others. file ∷ others) rest.others);
-      found = rw (inserted-behind new file more less, ne_eqb file.generation new.generation (omega arith)) rest.found;
+      others = rw (inserted-after new file more less, ne_eqb file.generation new.generation (omega arith)) (ap (λ others. file ∷ others) rest.others);
+      found = rw (inserted-after new file more less, ne_eqb file.generation new.generation (omega arith)) rest.found;
     }
 among-step new file more low a none rest (inr greater) =
     record {

@@ -119,9 +119,9 @@ higher-all generation [] low le a = refl
 higher-all generation (file ∷ more) low le a =
     rw (lt-ltb generation file.generation (omega (arith, a.0))) (ap (λ rest. file ∷ rest) (higher-all generation more file.generation (omega (arith, a.0)) a.3))
 
--- a file goes behind the first, if that is lower
-pub inserted-behind : (new file : File) (more : List File) → file.generation < new.generation → inserted new (file ∷ more) ≡ file ∷ inserted new more
-inserted-behind new file more lt =
+-- a file goes after the first, if that is lower
+pub inserted-after : (new file : File) (more : List File) → file.generation < new.generation → inserted new (file ∷ more) ≡ file ∷ inserted new more
+inserted-after new file more lt =
     rw (lt-ltb file.generation new.generation lt, le-ltb new.generation file.generation (omega arith))
 
 -- and before it, if that is higher
@@ -135,14 +135,14 @@ pub record IsNew (new : File) (files : List File) : Type 0 where
   pub within : new.generation ≤ GENERATION_LIMIT
   pub absent : has new.generation files ≡ false
 
-behind : (new file : File) (more : List File) → IsNew new (file ∷ more) → (file.generation ≡ new.generation → ⊥) × IsNew new more
-behind new file more n =
+after : (new file : File) (more : List File) → IsNew new (file ∷ more) → (file.generation ≡ new.generation → ⊥) × IsNew new more
+after new file more n =
     let parts : (is_generation new.generation file ≡ false) × (has new.generation more ≡ false) = or_parts _ _ n.absent in
     (eqb-false file.generation new.generation parts.0, record { short = n.short; within = n.within; absent = parts.1 })
 
 IsAscending-inserted-step : (new file : File) (more : List File) (low : ℕ) → low < new.generation → IsNew new more → IsAscending low (file ∷ more) → (file.generation < new.generation → IsAscending file.generation (inserted new more)) → (file.generation < new.generation) ⊎ (new.generation < file.generation) → IsAscending low (inserted new (file ∷ more))
 IsAscending-inserted-step new file more low lt n a rest (inl less) =
-    subst (IsAscending low) (sym (inserted-behind new file more less)) (a.0, a.1, a.2, rest less)
+    subst (IsAscending low) (sym (inserted-after new file more less)) (a.0, a.1, a.2, rest less)
 IsAscending-inserted-step new file more low lt n a rest (inr greater) =
     subst (IsAscending low) (sym (inserted-before new file more low a greater)) (lt, n.within, n.short, (greater, a.1, a.2, a.3))
 
@@ -150,7 +150,7 @@ IsAscending-inserted-step new file more low lt n a rest (inr greater) =
 pub IsAscending-inserted : (new : File) (files : List File) (low : ℕ) → low < new.generation → IsNew new files → IsAscending low files → IsAscending low (inserted new files)
 IsAscending-inserted new [] low lt n a = (lt, n.within, n.short, tt)
 IsAscending-inserted new (file ∷ more) low lt n a =
-    let next : (file.generation ≡ new.generation → ⊥) × IsNew new more = behind new file more n in
+    let next : (file.generation ≡ new.generation → ⊥) × IsNew new more = after new file more n in
     IsAscending-inserted-step new file more low lt next.1 a (λ less. IsAscending-inserted new more file.generation less next.1 a.3) (cases_ne file.generation new.generation next.0)
 
 -- the place of a new file
@@ -159,7 +159,7 @@ place_of new files = prefix_len (λ other. nat_lt other.generation new.generatio
 
 inserted_at-step : (new file : File) (more : List File) (low : ℕ) → IsAscending low (file ∷ more) → inserted new more ≡ insert more (place_of new more) new → (file.generation < new.generation) ⊎ (new.generation < file.generation) → inserted new (file ∷ more) ≡ insert (file ∷ more) (place_of new (file ∷ more)) new
 inserted_at-step new file more low a rest (inl less) =
-    inserted-behind new file more less
+    inserted-after new file more less
     ∙ (ap (λ others. file ∷ others) rest ∙ (sym (insert-cons file new more (place_of new more)) ∙ ap (λ n. insert (file ∷ more) n new) (sym (cond-true _ (1 + place_of new more) 0 (lt-ltb file.generation new.generation less)))))
 inserted_at-step new file more low a rest (inr greater) =
     inserted-before new file more low a greater
@@ -169,7 +169,7 @@ inserted_at-step new file more low a rest (inr greater) =
 pub inserted_at : (new : File) (files : List File) (low : ℕ) → IsNew new files → IsAscending low files → inserted new files ≡ insert files (place_of new files) new
 inserted_at new [] low n a = refl
 inserted_at new (file ∷ more) low n a =
-    let next : (file.generation ≡ new.generation → ⊥) × IsNew new more = behind new file more n in
+    let next : (file.generation ≡ new.generation → ⊥) × IsNew new more = after new file more n in
     inserted_at-step new file more low a (inserted_at new more file.generation next.1 a.3) (cases_ne file.generation new.generation next.0)
 
 -- a generation that is not there is not found

@@ -76,7 +76,7 @@ pub IsAscending-added : (file : File) (files : List File) → IsAscending 0 file
 IsAscending-added file files a lt within short absent =
     ascending-cond _ file.keep (inserted file files) (IsAscending-inserted file files 0 lt (record { short = short; within = within; absent = absent }) a)
 
--- a file behind all others says how many the next one keeps
+-- a file after all others says how many the next one keeps
 pub keep_for-append : (keep : ℕ) (files : List File) (file : File) → keep_for keep (files ++ file ∷ []) ≡ file.keep
 keep_for-append keep [] file = refl
 keep_for-append keep (first ∷ more) file = keep_for-append first.keep more file

@@ -50,7 +50,7 @@ abbrev pub lowest : List File → Option ℕ
 lowest [] = None
 lowest (file ∷ more) = Some (option_map_or (min file.generation) (lowest more) file.generation)
 
--- one more than the highest generation, deleted ones included, and 1 with none
+-- [next-generation] one more than the highest generation, deleted ones included, and 1 with none
 abbrev pub next_generation : List File → ℕ
 next_generation files = unwrap_or (highest files) 0 + 1
 

@@ -13,7 +13,7 @@ kept_newest keep [] = []
 kept_newest keep (file ∷ more) =
     (if nat_le keep (live more) then marked_as true file else file) ∷ kept_newest keep more
 
--- so many unmarked files are kept, and with 0 all are
+-- [retention] so many unmarked files are kept, and with 0 all are
 abbrev pub retained : ℕ → List File → List File
 retained keep files = if keep == 0 then files else kept_newest keep files
 

@@ -100,6 +100,7 @@ impl Gens {
     /// The generation of a new file: one more than the highest, deleted ones included, and 1 with no file. GenFull
     /// where the highest is 131,071.
     pub fn next(&self) -> Result<u32, GenFull>
+        // [next-generation]
         ensures next { IfOk result (λ next. next ≡ next_generation self.now.files) }
         ensures full { IsErr result ↔ (highest self.now.files ≡ Some GENERATION_LIMIT) }
         ensures within { IfOk result (λ next. next ≤ GENERATION_LIMIT) }
@@ -122,7 +123,7 @@ impl Gens {
         search::lowest(&self.files, deleted)
     }
 
-    /// Makes room for so many more files. Only want of memory can be in the way, and then the files stay.
+    /// Makes room for so many more files. Only lack of memory can be in the way, and then the files stay.
     pub fn reserve(&mut self, n: usize) -> Result<(), NoMemory>
         ensures files { self.new.files ≡ self.old.files }
         ensures room { OnOk result (length self.new.files + n ≤ self.new.room) }
@@ -155,6 +156,7 @@ impl Gens {
         requires from_one { 0 < file.generation }
         requires to_limit { file.generation ≤ GENERATION_LIMIT }
         requires absent { has file.generation self.old.files ≡ false }
+        // [retention]
         ensures added { self.new ≡ record self.old { files = added file self.old.files } }
         ensures ordered { IsAscending 0 self.old.files }
     {

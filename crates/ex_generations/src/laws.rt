@@ -23,7 +23,7 @@ pub fn retention_changes_marks_alone()
         → map (marked_as true) (retained keep files) ≡ map (marked_as true) files }
 {}
 
-/// A file of the next generation goes behind all others.
+/// A file of the next generation goes after all others.
 pub fn the_next_generation_goes_last()
     ensures { (file : File) → (files : List File) → file.generation ≡ next_generation files
         → inserted file files ≡ files ++ file ∷ [] }

@@ -29,7 +29,7 @@ token sign next = block (Token sign) roles.None next
 abbrev pub source_token : List ℕ → ℕ → Block
 source_token sign next = block (Token sign) roles.Source next
 
--- a comma, behind which subcommands follow
+-- a comma, after which subcommands follow
 abbrev pub comma : Block
 comma = block Comma roles.Sub LINE_END
 

@@ -59,7 +59,7 @@ pub(crate) fn source_token(sign: &str, next: u16) -> Block
     Block::new(Function::Token(Name::new(sign)), Role::Source, next)
 }
 
-// A comma, behind which subcommands follow.
+// A comma, after which subcommands follow.
 pub(crate) fn comma() -> Block
     ensures { result ≡ comma }
 {

@@ -76,7 +76,7 @@ fn source_nodes(alloc: Global) -> Result<Vec<Node>, NoMemory>
     Ok(nodes)
 }
 
-// Puts behind the nodes, for each of these blocks, a node of it alone.
+// Puts after the nodes, for each of these blocks, a node of it alone.
 fn push_each(nodes: &mut Vec<Node>, alloc: Global, blocks: Vec<Block>) -> Result<(), NoMemory>
     ensures { IfOk result (λ _. nodes.new.items ≡ nodes.old.items ++ map only blocks.items) }
 {
@@ -86,7 +86,7 @@ fn push_each(nodes: &mut Vec<Node>, alloc: Global, blocks: Vec<Block>) -> Result
     Ok(())
 }
 
-// Puts nodes behind others.
+// Puts nodes after others.
 fn push_all(nodes: &mut Vec<Node>, more: Vec<Node>) -> Result<(), NoMemory>
     ensures { IfOk result (λ _. nodes.new.items ≡ nodes.old.items ++ more.items) }
 {

@@ -1,4 +1,4 @@
--- Pieces that are appended to the open file of a host, one behind the other.
+-- Pieces that are appended to the open file of a host, one after the other.
 -- A private trait over all hosts (Target) has one ghost member, and its method ensures one record, Appends
 -- (appends_both, appends_early).
 use Rattle.std.proofs.Common.{◌≡◌, ℕ, Bool, List, ◌++◌, Option, Some, None, refl, sym, ap, subst, ◌∙◌, arith, append_assoc}
@@ -17,7 +17,7 @@ longer_both : (file : Option (List ℕ)) (first second : List ℕ) → longer (l
 longer_both None first second = refl
 longer_both (Some content) first second = ap Some (append_assoc content first second)
 
--- the second piece is written behind the first
+-- the second piece is written after the first
 writes_both : (before middle now : Option (List ℕ)) (first second : List ℕ) (result : Put)
     → middle ≡ longer before first → Writes middle now second result → Writes before now (first ++ second) result
 writes_both before middle now first second Done wrote writes =
@@ -31,7 +31,7 @@ writes_both before middle now first second Failed wrote writes = record {
   appended = writes.appended ∙ ap (λ file. longer file writes.part) wrote ∙ longer_both before first writes.part;
 }
 
--- a second piece is appended behind the first
+-- a second piece is appended after the first
 pub appends_both : (tells : Bool) (before middle now : Outside) (first second : List ℕ) (result : Put)
     → Appends tells before middle first Done → Appends tells middle now second result
     → Appends tells before now (first ++ second) result

@@ -11,9 +11,9 @@ use Rattle.ex_image.specs.Fields.{cut}
 abbrev pub lacks : ℕ → List ℕ → Bool
 lacks byte bytes = list_all (λ b. not (b == byte)) bytes
 
--- what a cut gives: the bytes before the first such byte, and those behind it
-pub record IsCut (byte : ℕ) (bytes before behind : List ℕ) : Type 0 where
-  pub joined : bytes ≡ before ++ byte ∷ behind
+-- what a cut gives: the bytes before the first such byte, and those after it
+pub record IsCut (byte : ℕ) (bytes before after : List ℕ) : Type 0 where
+  pub joined : bytes ≡ before ++ byte ∷ after
   pub first : lacks byte before ≡ true
 
 before_one : (p : ℕ → Bool) (x : ℕ) (xs : List ℕ)
@@ -27,13 +27,13 @@ after_one p x xs = by (not (p x)) (position_or_len p xs)
     by true n = let e : 1 + n + 1 ≡ suc (n + 1) = omega arith in ap (λ k. drop k (x ∷ xs)) e
     by false n = refl
 
-cut_one : (byte b : ℕ) (bytes before behind : List ℕ) (found : Bool) → (b == byte) ≡ found
+cut_one : (byte b : ℕ) (bytes before after : List ℕ) (found : Bool) → (b == byte) ≡ found
     → (found || list_any (λ b. b == byte) bytes) ≡ true
-    → (list_any (λ b. b == byte) bytes ≡ true → IsCut byte bytes before behind)
-    → IsCut byte (b ∷ bytes) (cond (not found) (b ∷ before) []) (cond (not found) behind bytes)
-cut_one byte b bytes before behind true is some later =
+    → (list_any (λ b. b == byte) bytes ≡ true → IsCut byte bytes before after)
+    → IsCut byte (b ∷ bytes) (cond (not found) (b ∷ before) []) (cond (not found) after bytes)
+cut_one byte b bytes before after true is some later =
     record { joined = ap (λ x. x ∷ bytes) (eqb-true b byte is); first = refl }
-cut_one byte b bytes before behind false is some later = record {
+cut_one byte b bytes before after false is some later = record {
   joined = ap (λ xs. b ∷ xs) (later some).joined;
   first = rw is (later some).first;
 }

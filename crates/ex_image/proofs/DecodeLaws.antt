@@ -63,6 +63,8 @@ there_in : (version : Version) (said : State) → has_directory said.connected s
 there_in versions.One said there = there
 there_in versions.Two said there = there
 
+-- [image-fault]
+-- [image-read]
 pub whole_there : (bytes : List ℕ) (version : Version) (said state : State) → IsImageIn version bytes said
     → state ≡ state_in version said → has_directory state.connected state.directories ≡ true
 unfolding IsImageIn

@@ -23,7 +23,7 @@ pub record IsStuck (reading : Reading) (rest : List ℕ) : Type 0 where
   pub kind : Kind
   pub is : record_at reading rest ≡ Err kind
 
--- so behind an end
+-- so after an end
 ended_stuck : (reading : Reading) (rest : List ℕ) → is_ended reading.last ≡ true → IsStuck reading rest
 unfolding record_at
 ended_stuck reading rest ended = record { kind = Form; is = rw ended refl }
@@ -92,20 +92,20 @@ image_made : (version : Version) (bytes : List ℕ) (state : State) → IsImageI
 unfolding IsImageIn
 image_made version bytes state image = image
 
-none_behind : (version other : Version) (bytes more : List ℕ) (first second : State) → IsImageIn version bytes first
+none_after : (version other : Version) (bytes more : List ℕ) (first second : State) → IsImageIn version bytes first
     → IsImageIn other (bytes ++ more) second → more ≡ []
 unfolding IsImageIn Makes
-none_behind version other bytes more first second image longer =
+none_after version other bytes more first second image longer =
     (same_end start (whole version first) (whole other second) image.0 longer.0 more [] image.1 longer.1
     (ap (λ bytes. bytes ++ more) (sym (append-nil (flat_map record_text image.0)) ∙ sym image.2) ∙ longer.2)
     (ended_stuck (whole version first) more refl) (ended_stuck (whole other second) [] refl)).1
 
--- behind an image nothing may stand
-pub nothing_behind : (bytes more : List ℕ) (state other : State) → IsImage bytes state → IsImage (bytes ++ more) other
+-- after an image nothing may stand
+pub nothing_after : (bytes more : List ℕ) (state other : State) → IsImage bytes state → IsImage (bytes ++ more) other
     → more ≡ []
 unfolding IsImage
-nothing_behind bytes more state other image longer =
-    none_behind image.0 longer.0 bytes more image.1 longer.1 image.2 longer.2
+nothing_after bytes more state other image longer =
+    none_after image.0 longer.0 bytes more image.1 longer.1 image.2 longer.2
 
 -- what was read of an image of a state
 state_of : Reading → State
@@ -139,7 +139,7 @@ never_bad bytes state place kind image bad =
 
 same_fault : (one two : Reading) (rest left : List ℕ) (kind fault : Kind) → one ≡ two → rest ≡ left
     → record_at one rest ≡ Err kind → record_at two left ≡ Err fault → kind ≡ fault
-same_fault one two rest left kind fault same behind first second = cc
+same_fault one two rest left kind fault same after first second = cc
 
 -- bytes go wrong at one place
 pub one_bad : (bytes : List ℕ) (place other : ℕ) (kind fault : Kind) → FirstBad bytes place kind
@@ -181,10 +181,10 @@ pub image_here : (bytes : List ℕ) (version : Version) (said : State) → IsIma
 unfolding IsImage
 image_here bytes version said image = (version, said, image, refl)
 
-behind_size : (bytes : List ℕ) (reading : Reading) (rest : List ℕ) → Makes bytes reading rest
+after_size : (bytes : List ℕ) (reading : Reading) (rest : List ℕ) → Makes bytes reading rest
     → length rest ≤ length bytes
 unfolding Makes
-behind_size bytes reading rest made =
+after_size bytes reading rest made =
     omega (arith, ap length made.2, length-append (flat_map record_text made.0) rest)
 
 -- bytes go wrong where no record is read, and more are wanted
@@ -195,7 +195,7 @@ bad_here bytes reading rest kind made goes bad = record {
   reading = reading;
   rest = rest;
   made = made;
-  placed = let most = behind_size bytes reading rest made in omega arith;
+  placed = let most = after_size bytes reading rest made in omega arith;
   goes_on = goes;
   bad = bad;
 }

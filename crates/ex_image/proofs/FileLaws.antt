@@ -35,14 +35,14 @@ pub record IsFile (directory : List ℕ) (full : FullName) : Type 0 where
   pub generation : is_short full.generation ≡ true
 
 -- the parts of a full name make its text
-file_end : (directory bytes name behind kind rest : List ℕ) (generation : ℕ) (full : FullName)
-    → bytes ≡ name ++ 46 ∷ behind → behind ≡ kind ++ 46 ∷ rest → rest ≡ decimal generation
+file_end : (directory bytes name after kind rest : List ℕ) (generation : ℕ) (full : FullName)
+    → bytes ≡ name ++ 46 ∷ after → after ≡ kind ++ 46 ∷ rest → rest ≡ decimal generation
     → is_file_name name ≡ true → is_file_type kind ≡ true → is_short generation ≡ true
     → done (full_name directory name kind generation) ≡ done full → (bytes ≡ file_text full) × IsFile directory full
-file_end directory bytes name behind kind rest generation full one two three named typed short is =
+file_end directory bytes name after kind rest generation full one two three named typed short is =
     let same : full_name directory name kind generation ≡ full = cc in
     subst (λ full. (bytes ≡ file_text full) × IsFile directory full) same (
-      one ∙ ap (λ behind. name ++ 46 ∷ behind) (two ∙ ap (λ rest. kind ++ 46 ∷ rest) three),
+      one ∙ ap (λ after. name ++ 46 ∷ after) (two ∙ ap (λ rest. kind ++ 46 ∷ rest) three),
       record { directory_is = refl; name = named; kind = typed; generation = short },
     )
 
@@ -50,10 +50,10 @@ file_takes : (directory bytes : List ℕ) (full : FullName) → file_of director
     → (bytes ≡ file_text full) × IsFile directory full
 unfolding file_of
 file_takes directory bytes full is =
-    by_part _ _ _ _ name_spelling 46 Form bytes _ full _ is λ name behind one named is.
-    by_part _ _ _ _ kind_spelling 46 Form behind _ full _ is λ kind rest two typed is.
+    by_part _ _ _ _ name_spelling 46 Form bytes _ full _ is λ name after one named is.
+    by_part _ _ _ _ kind_spelling 46 Form after _ full _ is λ kind rest two typed is.
     by_rest _ _ _ _ number_spelling rest _ full _ is λ generation three short is.
-    file_end directory bytes name behind kind rest generation full one two three named typed short is
+    file_end directory bytes name after kind rest generation full one two three named typed short is
 
 file_again : (directory : List ℕ) (full : FullName) → IsFile directory full
     → file_of directory (file_text full) ≡ Ok full

@@ -14,9 +14,9 @@ use Rattle.ex_image.specs.Reading.{may_follow, start}
 use Rattle.ex_image.specs.Record.{Entry, Connected, End, Head}
 use Rattle.ex_image.proofs.Endings.{whole}
 use Rattle.ex_image.proofs.Leads.{leads_append}
-use Rattle.ex_image.proofs.Runs.{behind_all, of_last, run_leads}
+use Rattle.ex_image.proofs.Runs.{after_all, of_last, run_leads}
 use Rattle.ex_image.proofs.Stands.{faultless_is}
-use Rattle.ex_image.proofs.ToldRecords.{at_directories, at_logical, at_queue, at_rows, connected_stands, directories_run, logical_run, queue_run, rows_run}
+use Rattle.ex_image.proofs.RecordTexts.{at_directories, at_logical, at_queue, at_rows, connected_stands, directories_run, logical_run, queue_run, rows_run}
 
 head_stands : (version : Version) → MayStand start (Head version, [])
 head_stands version = record {
@@ -37,22 +37,22 @@ end_stands version state last place = record {
   faultless = faultless_is state End (record { range = refl; there = refl; above = refl; room = refl });
 }
 
--- behind some directories one is connected
+-- after some directories one is connected
 connected_next : (name : List ℕ) (directories : List Directory) → has_directory name directories ≡ true
-    → may_follow (behind_all tags.Head tags.Directory directories) tags.Connected ≡ true
+    → may_follow (after_all tags.Head tags.Directory directories) tags.Connected ≡ true
 connected_next name [] there = absurd (cc)
 connected_next name (directory ∷ directories) there =
     of_last (λ last. may_follow last tags.Connected ≡ true) tags.Directory tags.Directory directories refl refl
 
 -- the last record before the files, before the queue and before the end
 abbrev named_last : State → Tag
-named_last state = behind_all tags.Connected tags.Logical state.logical
+named_last state = after_all tags.Connected tags.Logical state.logical
 
 abbrev filed_last : State → Tag
-filed_last state = behind_all (named_last state) tags.File state.rows
+filed_last state = after_all (named_last state) tags.File state.rows
 
 abbrev queued_last : State → Tag
-queued_last state = behind_all (filed_last state) tags.Request state.queue
+queued_last state = after_all (filed_last state) tags.Request state.queue
 
 -- what may follow a logical name and a connected directory
 late : (state : State) (next : Tag) → may_follow tags.Connected next ≡ true → may_follow tags.Logical next ≡ true
@@ -86,7 +86,7 @@ queued_records version state = filed_records version state ++ map request_record
 names_lead : (version : Version) (state : State) → IsWellFormed state
     → Leads start (named_records version state) (at_logical version state (named_last state) state.logical)
 names_lead version state good =
-    let last = behind_all tags.Head tags.Directory state.directories in
+    let last = after_all tags.Head tags.Directory state.directories in
     let next = connected_next state.connected state.directories good.connected_there in
     leads_append start (at_directories version last state.directories)
     (at_logical version state (named_last state) state.logical)
@@ -119,7 +119,7 @@ queue_leads version state good told =
     (run_leads state.queue (at_queue version state) request_record tags.Request (queue_run version state good.draft)
     (filed_last state) (later state tags.Request refl refl refl))
 
--- the records of a well-formed state may stand one behind the other, in a version that tells all of its files
+-- the records of a well-formed state may stand one after the other, in a version that tells all of its files
 records_lead : (version : Version) (state : State) → IsWellFormed state → are_told_in version state.rows ≡ true
     → Leads start (records_of version state) (whole version state)
 records_lead version state good told =

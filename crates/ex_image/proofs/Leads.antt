@@ -1,4 +1,4 @@
--- Records one behind the other, each of which may stand there.
+-- Records one after the other, each of which may stand there.
 -- No loop over bytes looks at the draft: its invariant is Makes bytes reading rest.
 use Rattle.std.proofs.Common.{◌≡◌, ℕ, List, [], ◌∷◌, ◌++◌, Ok, refl, ap, subst, ◌∙◌}
 use Rattle.std.specs.List.{flat_map}
@@ -8,7 +8,7 @@ use Rattle.ex_image.specs.Reading.{Reading, record_at, start, with_record}
 use Rattle.ex_image.specs.Record.{Entry, record_text}
 use Rattle.ex_image.proofs.RecordLaws.{record_takes}
 
--- records, and behind them others
+-- records, and after them others
 pub leads_append : (from middle to : Reading) (records more : List (Entry × List ℕ)) → Leads from records middle
     → Leads middle more to → Leads from (records ++ more) to
 leads_append from middle to [] more one two = subst (λ at. Leads at more to) one two

@@ -45,7 +45,7 @@ record_here records i here is =
     (drop_more records i here (slice_get_within records i here is)
     ∙ ap (λ first. first ∷ drop (i + 1) records) (get_or_from_slice_get records i here here is))
 
--- behind its line, the bytes of a file and a line feed
+-- after its line, the bytes of a file and a line feed
 pub file_joined : (line text held bytes : List ℕ) → line ≡ text ++ 10 ∷ [] → held ≡ bytes
     → (line ++ held) ++ 10 ∷ [] ≡ text ++ 10 ∷ (bytes ++ 10 ∷ [])
 file_joined line text held bytes is holds =

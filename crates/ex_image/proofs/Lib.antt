@@ -18,6 +18,7 @@ pub mod ReaderFaults
 pub mod ReaderFields
 pub mod ReaderTexts
 pub mod RecordLaws
+pub mod RecordTexts
 pub mod RequestLaws
 pub mod Runs
 pub mod Sizes
@@ -25,6 +26,5 @@ pub mod Soundness
 pub mod Spellings
 pub mod StampLaws
 pub mod Stands
-pub mod ToldRecords
 pub mod Versions
 pub mod WrittenStates

@@ -18,7 +18,7 @@ use Rattle.ex_image.proofs.FileLaws.{IsFile, file_spelling, mark_spelling}
 use Rattle.ex_image.proofs.StampLaws.{by_stamp, stamp_again}
 use Rattle.ex_image.proofs.Spellings.{by_part, by_rest, done, part_again}
 
--- behind a letter these bytes are the line of an entry, in a version
+-- after a letter these bytes are the line of an entry, in a version
 pub record IsLine (version : Version) (letter bytes : List ℕ) (entry : Entry) : Type 0 where
   pub text : letter ++ 32 ∷ bytes ≡ line_text entry
   pub shape : is_shaped entry ≡ true
@@ -123,8 +123,8 @@ pub file_takes : (version : Version) (bytes : List ℕ) (entry : Entry) → file
 unfolding file_line
 file_takes version bytes entry is =
     by_part _ _ _ _ directory_spelling 32 Form bytes _ entry _ is λ directory rest one named is.
-    by_part _ _ _ _ (file_spelling directory) 32 Form rest _ entry _ is λ full behind two file is.
-    by_part _ _ _ _ mark_spelling 32 Form behind _ entry _ is λ mark more three good is.
+    by_part _ _ _ _ (file_spelling directory) 32 Form rest _ entry _ is λ full after two file is.
+    by_part _ _ _ _ mark_spelling 32 Form after _ entry _ is λ mark more three good is.
     by_stamp version more _ entry _ is λ stamp last four before is.
     by_rest _ _ _ _ number_spelling last _ entry _ is λ size five short is.
     line_end version (codes "F") bytes (File version (row_of full mark stamp) size) entry is (record {

@@ -36,9 +36,9 @@ cut_some byte kind bytes front rest before is some =
     let size : length rest ≡ length bytes - at = ap length is ∙ length-drop at bytes in
     let within : at < length bytes = omega arith in
     let found : list_any test bytes ≡ true = list_any_at test bytes at 0 within (passes_at_first test bytes 0 within) in
-    let behind : drop (at + 1) bytes ≡ take (length rest - 1) (drop 1 rest) =
+    let after : drop (at + 1) bytes ≡ take (length rest - 1) (drop 1 rest) =
     sym (take_rest rest 1 ∙ ap (drop 1) is ∙ drop-drop 1 at bytes) in
-    rw (found, ← before, behind)
+    rw (found, ← before, after)
 
 -- ten digits write a number that fits
 pub numeral_within : (digits : List ℕ) → is_numeral digits ≡ true → digits_value 10 digits ≤ NUMBER_LIMIT

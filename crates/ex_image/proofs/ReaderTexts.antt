@@ -43,7 +43,7 @@ note_is_ascii note is =
     IsAscii_of_all is_text text_byte_is_ascii note
     (and_parts (nat_le (length note) NAME_LIMIT) (list_all is_text note) is).1
 
--- the first byte of a part, and those behind it
+-- the first byte of a part, and those after it
 first_of_parts : (byte : ℕ) (parts : List (List ℕ)) → list_all is_upper_name (onto_first byte parts) ≡ true
     → (is_name byte ≡ true) × (list_all is_upper_name parts ≡ true)
 first_of_parts byte [] all =

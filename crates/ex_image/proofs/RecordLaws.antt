@@ -11,13 +11,13 @@ use Rattle.ex_image.specs.declared.tag.Tag.TheVariants as tags
 use Rattle.ex_image.specs.declared.version.Version.{Version}
 use Rattle.ex_image.specs.Fields.{content_at}
 use Rattle.ex_image.specs.Grammar.{HasContent, MayStand}
-use Rattle.ex_image.specs.Reading.{Reading, behind, fault_of, is_ended, may_follow, record_at, record_behind, standing, tag_of, unless}
+use Rattle.ex_image.specs.Reading.{Reading, after, fault_of, is_ended, may_follow, record_after, record_at, standing, tag_of, unless}
 use Rattle.ex_image.specs.Record.{Entry, File, content_text, line_text, record_text}
 use Rattle.ex_image.proofs.EntryLaws.{IsEntry, entry_spelling}
 use Rattle.ex_image.proofs.FieldLaws.{is_inside}
 use Rattle.ex_image.proofs.Spellings.{IsSpelling, by_part, by_rest, done, part_again, steps_of}
 
--- an entry that may stand behind a record, in an image of a version
+-- an entry that may stand after a record, in an image of a version
 pub record IsPlaced (version : Version) (last : Tag) (entry : Entry) : Type 0 where
   pub is : IsEntry version entry
   pub place : may_follow last (tag_of entry) ≡ true
@@ -94,23 +94,23 @@ content_again bytes rest =
       drop-append-add bytes (10 ∷ rest) 1,
     ) refl
 
--- what stands behind a line
+-- what stands after a line
 nothing_takes : (bytes : List ℕ) (parts : List ℕ × List ℕ) → done ([], bytes) ≡ done parts
     → (bytes ≡ parts.1) × (parts.0 ≡ [])
 nothing_takes bytes parts is =
     let same : ([], bytes) ≡ parts = cc in
     (ap (λ (both : List ℕ × List ℕ). both.1) same, ap (λ (both : List ℕ × List ℕ). both.0) (sym same))
 
-behind_takes : (entry : Entry) (bytes : List ℕ) (parts : List ℕ × List ℕ) → behind entry bytes ≡ Ok parts
+after_takes : (entry : Entry) (bytes : List ℕ) (parts : List ℕ × List ℕ) → after entry bytes ≡ Ok parts
     → (bytes ≡ content_text entry parts.0 ++ parts.1) × HasContent entry parts.0
-behind_takes (File version row size) bytes parts is = content_takes size bytes parts is
-behind_takes entry bytes parts is = nothing_takes bytes parts is
+after_takes (File version row size) bytes parts is = content_takes size bytes parts is
+after_takes entry bytes parts is = nothing_takes bytes parts is
 
-behind_again : (entry : Entry) (bytes rest : List ℕ) → HasContent entry bytes
-    → behind entry (content_text entry bytes ++ rest) ≡ Ok (bytes, rest)
-behind_again (File version row size) bytes rest content =
+after_again : (entry : Entry) (bytes rest : List ℕ) → HasContent entry bytes
+    → after entry (content_text entry bytes ++ rest) ≡ Ok (bytes, rest)
+after_again (File version row size) bytes rest content =
     ap (λ size. content_at size ((bytes ++ 10 ∷ []) ++ rest)) (sym content) ∙ content_again bytes rest
-behind_again entry bytes rest content = ap (λ bytes. done (bytes, rest)) (sym content)
+after_again entry bytes rest content = ap (λ bytes. done (bytes, rest)) (sym content)
 
 -- a fault or none
 unless_takes : {A : Type 0} (fault : Option Kind) (value end : A) → unless fault value ≡ done end
@@ -141,13 +141,13 @@ read_of reading bytes line entry parts part one placed two three =
       };
     })
 
-behind_record : (reading : Reading) (bytes : List ℕ) (part : (Entry × List ℕ) × List ℕ)
-    → record_behind reading bytes ≡ Ok part → IsRead reading bytes part
-unfolding record_behind
-behind_record reading bytes part is =
+after_record : (reading : Reading) (bytes : List ℕ) (part : (Entry × List ℕ) × List ℕ)
+    → record_after reading bytes ≡ Ok part → IsRead reading bytes part
+unfolding record_after
+after_record reading bytes part is =
     by_part _ _ _ _ (standing_spelling reading.version reading.last) 10 Cut bytes _ part _ is λ entry line one placed is.
-    let step = steps_of (behind entry line) _ part is in
-    let two = behind_takes entry line step.value step.first in
+    let step = steps_of (after entry line) _ part is in
+    let two = after_takes entry line step.value step.first in
     let three = unless_takes (fault_of reading.state entry) ((entry, step.value.0), step.value.1) part step.then in
     read_of reading bytes line entry step.value part one placed two three
 
@@ -156,27 +156,27 @@ pub record_takes : (reading : Reading) (bytes : List ℕ) (part : (Entry × List
     → record_at reading bytes ≡ Ok part → IsRead reading bytes part
 unfolding record_at
 record_takes reading bytes part is =
-    by (is_ended reading.last) (record_behind reading bytes) (behind_record reading bytes part) is
+    by (is_ended reading.last) (record_after reading bytes) (after_record reading bytes part) is
   where
     by : (ended : Bool) (read : Result ((Entry × List ℕ) × List ℕ) Kind)
         → (read ≡ Ok part → IsRead reading bytes part) → cond ended (Err Form) read ≡ Ok part
         → IsRead reading bytes part
-    by true read behind is = absurd (cc)
-    by false read behind is = behind is
+    by true read after is = absurd (cc)
+    by false read after is = after is
 
--- nothing may stand behind an end
+-- nothing may stand after an end
 not_ended : (last next : Tag) → may_follow last next ≡ true → is_ended last ≡ false
 not_ended tags.End next place = absurd (false≢true place)
 not_ended last next place = refl
 
-again_behind : (reading : Reading) (entry : Entry) (bytes rest : List ℕ) → MayStand reading (entry, bytes)
-    → record_behind reading (line_text entry ++ 10 ∷ (content_text entry bytes ++ rest)) ≡ Ok ((entry, bytes), rest)
-unfolding record_behind
-again_behind reading entry bytes rest stands =
+again_after : (reading : Reading) (entry : Entry) (bytes rest : List ℕ) → MayStand reading (entry, bytes)
+    → record_after reading (line_text entry ++ 10 ∷ (content_text entry bytes ++ rest)) ≡ Ok ((entry, bytes), rest)
+unfolding record_after
+again_after reading entry bytes rest stands =
     rw (
       part_again _ _ _ _ (standing_spelling reading.version reading.last) 10 Cut refl entry (content_text entry bytes ++ rest)
           (record { is = record { shape = stands.shape; written = stands.written }; place = stands.place }),
-      behind_again entry bytes rest stands.content,
+      after_again entry bytes rest stands.content,
       stands.faultless,
     ) refl
 
@@ -188,7 +188,7 @@ record_again reading r rest stands =
     rw (
       append_assoc (line_text r.0) (10 ∷ content_text r.0 r.1) rest,
       not_ended reading.last (tag_of r.0) stands.place,
-    ) (again_behind reading r.0 r.1 rest stands)
+    ) (again_after reading r.0 r.1 rest stands)
 
 -- a record takes a byte at least
 pub record_shorter : (reading : Reading) (bytes : List ℕ) (part : (Entry × List ℕ) × List ℕ)

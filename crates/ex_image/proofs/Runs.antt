@@ -1,4 +1,4 @@
--- The records of a list, one behind the other.
+-- The records of a list, one after the other.
 use Rattle.std.proofs.Common.{◌≡◌, ℕ, true, List, [], ◌∷◌, ◌++◌, map, refl, ap, subst, sym, ◌∙◌, append_assoc}
 use Rattle.std.proofs.lemmas.List.{append-nil}
 use Rattle.ex_image.specs.declared.tag.Tag.{Tag}
@@ -6,14 +6,14 @@ use Rattle.ex_image.specs.Grammar.{Leads, MayStand}
 use Rattle.ex_image.specs.Reading.{Reading, may_follow, with_record}
 use Rattle.ex_image.specs.Record.{Entry}
 
--- which record is the last behind those of a list
-abbrev pub behind_all : {X : Type 0} → Tag → Tag → List X → Tag
-behind_all last own [] = last
-behind_all last own (x ∷ xs) = behind_all own own xs
+-- which record is the last after those of a list
+abbrev pub after_all : {X : Type 0} → Tag → Tag → List X → Tag
+after_all last own [] = last
+after_all last own (x ∷ xs) = after_all own own xs
 
 -- what holds of both that may be the last holds of the last
 pub of_last : {X : Type 0} (P : Tag → Type 0) (last own : Tag) (xs : List X) → P last → P own
-    → P (behind_all last own xs)
+    → P (after_all last own xs)
 of_last P last own [] first second = first
 of_last P last own (x ∷ xs) first second = of_last P own own xs second second
 
@@ -28,11 +28,11 @@ pub record IsRun {X : Type 0} (all : List X) (at : Tag → List X → Reading) (
 
 run_from : {X : Type 0} (all : List X) (at : Tag → List X → Reading) (written : X → Entry × List ℕ) (own : Tag)
     → IsRun all at written own → (last : Tag) (before rest : List X) → all ≡ before ++ rest → may_follow last own ≡ true
-    → Leads (at last before) (map written rest) (at (behind_all last own rest) all)
+    → Leads (at last before) (map written rest) (at (after_all last own rest) all)
 run_from all at written own run last before [] same place = ap (at last) (same ∙ append-nil before)
 run_from all at written own run last before (x ∷ rest) same place = (
   run.stands last before x rest same place,
-  subst (λ from. Leads from (map written rest) (at (behind_all own own rest) all)) (sym (run.step last before x))
+  subst (λ from. Leads from (map written rest) (at (after_all own own rest) all)) (sym (run.step last before x))
       (run_from all at written own run own (before ++ x ∷ []) rest (same ∙ sym (append_assoc before (x ∷ []) rest))
       run.again),
 )
@@ -40,5 +40,5 @@ run_from all at written own run last before (x ∷ rest) same place = (
 -- so all of them are read
 pub run_leads : {X : Type 0} (all : List X) (at : Tag → List X → Reading) (written : X → Entry × List ℕ) (own : Tag)
     → IsRun all at written own → (last : Tag) → may_follow last own ≡ true
-    → Leads (at last []) (map written all) (at (behind_all last own all) all)
+    → Leads (at last []) (map written all) (at (after_all last own all) all)
 run_leads all at written own run last place = run_from all at written own run last [] all refl place

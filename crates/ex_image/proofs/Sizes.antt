@@ -182,7 +182,7 @@ leads_size from to ((entry, bytes) ∷ records) leads =
     let more = leads_size (with_record from (entry, bytes)) to records leads.1 in
     omega (arith, length-append (record_text (entry, bytes)) (flat_map record_text records))
 
--- records with no bytes behind their lines
+-- records with no bytes after their lines
 plain_room : {X : Type 0} (record_of : X → Entry × List ℕ) → ((x : X) → (record_of x).1 ≡ []) → (xs : List X)
     → room (map record_of xs) ≡ 400 * length xs
 plain_room record_of plain [] = refl

@@ -20,7 +20,7 @@ forms_there directories [] within = refl
 forms_there directories (entry ∷ more) within =
     and_from _ _ (form_of directories entry (and_first _ _ within)) (forms_there directories more (and_second _ _ within))
 
--- and so are those of a state
+-- [image-written] and so are those of a state
 pub forms_of_state : (parts state : State) → parts ≡ state → IsWellFormed state
     → list_all (λ entry. nat_lt entry.form FORMS) parts.queue ≡ true
 forms_of_state parts state is formed =

@@ -64,13 +64,13 @@ pub record IsTaken {A : Type 0} (write : A → List ℕ) (Good : A → Type 0) (
 abbrev pub done : {A : Type 0} → A → Result A Kind
 done x = Ok x
 
-taken_of : {A : Type 0} (write : A → List ℕ) (Good : A → Type 0) (byte : ℕ) (bytes before behind : List ℕ) (x : A)
-    (part : A × List ℕ) → IsCut byte bytes before behind → (before ≡ write x) × Good x → done (x, behind) ≡ done part
+taken_of : {A : Type 0} (write : A → List ℕ) (Good : A → Type 0) (byte : ℕ) (bytes before after : List ℕ) (x : A)
+    (part : A × List ℕ) → IsCut byte bytes before after → (before ≡ write x) × Good x → done (x, after) ≡ done part
     → IsTaken write Good byte bytes part
-taken_of write Good byte bytes before behind x part parts taken is =
-    let same : (x, behind) ≡ part = cc in
+taken_of write Good byte bytes before after x part parts taken is =
+    let same : (x, after) ≡ part = cc in
     subst (λ at. IsTaken write Good byte bytes at) same
-    (record { joined = parts.joined ∙ ap (λ front. front ++ byte ∷ behind) taken.0; good = taken.1 })
+    (record { joined = parts.joined ∙ ap (λ front. front ++ byte ∷ after) taken.0; good = taken.1 })
 
 pub part_takes : {A : Type 0} (read : List ℕ → Result A Kind) (write : A → List ℕ) (Good : A → Type 0) (test : ℕ → Bool)
     → IsSpelling read write Good test → (byte : ℕ) (kind : Kind) (bytes : List ℕ) (part : A × List ℕ)
@@ -90,7 +90,7 @@ part_again read write Good test spelling byte kind fails x rest good =
       spelling.again x good,
     ) refl
 
--- what holds behind a part that was read, whatever it was, holds behind the whole
+-- what holds after a part that was read, whatever it was, holds after the whole
 pub by_part : {A B : Type 0} (read : List ℕ → Result A Kind) (write : A → List ℕ) (Good : A → Type 0) (test : ℕ → Bool)
     → IsSpelling read write Good test → (byte : ℕ) (kind : Kind) (bytes : List ℕ) (next : A × List ℕ → Result B Kind)
     (end : B) (P : Type 0) → (part_at byte kind read bytes >>= next) ≡ Ok end

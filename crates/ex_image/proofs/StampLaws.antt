@@ -55,7 +55,7 @@ three_joined : (one two three rest : List ℕ)
     → one ++ 32 ∷ (two ++ 32 ∷ (three ++ 32 ∷ rest)) ≡ (one ++ 32 ∷ (two ++ 32 ∷ three)) ++ 32 ∷ rest
 three_joined one two three rest =
     sym (append_assoc one (32 ∷ (two ++ 32 ∷ three)) (32 ∷ rest)
-    ∙ ap (λ behind. one ++ 32 ∷ behind) (append_assoc two (32 ∷ three) (32 ∷ rest)))
+    ∙ ap (λ after. one ++ 32 ∷ after) (append_assoc two (32 ∷ three) (32 ∷ rest)))
 
 stamp_takes : (version : Version) (bytes : List ℕ) (part : Stamp × List ℕ) → stamp_at version bytes ≡ Ok part
     → IsStampTaken version bytes part
@@ -76,7 +76,7 @@ stamp_takes versions.Two bytes part is =
     (record { told = refl; keep = few; moment = short; read = late }))
     is
 
--- what holds behind a stamp that was read, whatever it was, holds behind the whole
+-- what holds after a stamp that was read, whatever it was, holds after the whole
 pub by_stamp : {B : Type 0} (version : Version) (bytes : List ℕ) (next : Stamp × List ℕ → Result B Kind) (end : B)
     (P : Type 0) → (stamp_at version bytes >>= next) ≡ Ok end
     → ((stamp : Stamp) (rest : List ℕ) → bytes ≡ stamp_text version stamp ++ 32 ∷ rest → is_stamp version stamp ≡ true

@@ -1,4 +1,4 @@
--- What stands of a state behind the last record that was read.
+-- What stands of a state after the last record that was read.
 use Rattle.std.proofs.Common.{◌≡◌, ℕ, Bool, true, false, not, cond, List, [], Some, None, refl}
 use Rattle.std.proofs.lemmas.Bool.{false≢true}
 use Rattle.ex_store.specs.State.{State, has_directory}
@@ -53,7 +53,7 @@ Stands tags.File state = (state.queue ≡ []) × IsConnected state
 Stands tags.Request state = IsConnected state
 Stands tags.End state = IsConnected state
 
--- behind one record more
+-- after one record more
 pub stands_more : (last : Tag) (state : State) (entry : Entry) (bytes : List ℕ) → Stands last state
     → may_follow last (tag_of entry) ≡ true → is_there state entry ≡ true
     → Stands (tag_of entry) (with_entry state entry bytes)

@@ -25,33 +25,33 @@ use Rattle.ex_image.proofs.WrittenStates.{image_of}
 abbrev AreTold : Reading → Type 0
 AreTold reading = are_told_in reading.version reading.state.rows ≡ true
 
-told_more : (reading : Reading) (next : Entry × List ℕ) → IsSound reading → AreTold reading → MayStand reading next
+contents_more : (reading : Reading) (next : Entry × List ℕ) → IsSound reading → AreTold reading → MayStand reading next
     → AreTold (with_record reading next)
-told_more reading (Head version, bytes) sound told may =
+contents_more reading (Head version, bytes) sound told may =
     all_none (λ (row : Row). is_told_in version (stamp_of row)) reading.state.rows
     (nothing_there reading.last reading.state sound.stands may.place)
-told_more reading (Directory name retention, bytes) sound told may = told
-told_more reading (Connected name, bytes) sound told may = told
-told_more reading (Logical name directory, bytes) sound told may = told
-told_more reading (File written row size, bytes) sound told may =
+contents_more reading (Directory name retention, bytes) sound told may = told
+contents_more reading (Connected name, bytes) sound told may = told
+contents_more reading (Logical name directory, bytes) sound told may = told
+contents_more reading (File written row size, bytes) sound told may =
     let stamp = (stamp_shape written (stamp_of row) (file_shape written row size may.shape).stamp).told in
     all_push (λ (each : Row). is_told_in reading.version (stamp_of each)) reading.state.rows
     (record row { file = record row.file { bytes = bytes } }) told
     (subst (λ version. is_told_in version (stamp_of row) ≡ true) may.written stamp)
-told_more reading (Request entry, bytes) sound told may = told
-told_more reading (End, bytes) sound told may = told
+contents_more reading (Request entry, bytes) sound told may = told
+contents_more reading (End, bytes) sound told may = told
 
-leads_told : (from to : Reading) (records : List (Entry × List ℕ)) → IsSound from → AreTold from
+leads_contents : (from to : Reading) (records : List (Entry × List ℕ)) → IsSound from → AreTold from
     → Leads from records to → AreTold to
-leads_told from to [] sound told leads = subst AreTold (sym leads) told
-leads_told from to (next ∷ records) sound told leads =
-    leads_told (with_record from next) to records (sound_more from next sound leads.0)
-    (told_more from next sound told leads.0) leads.1
+leads_contents from to [] sound told leads = subst AreTold (sym leads) told
+leads_contents from to (next ∷ records) sound told leads =
+    leads_contents (with_record from next) to records (sound_more from next sound leads.0)
+    (contents_more from next sound told leads.0) leads.1
 
-told_of : (version : Version) (bytes : List ℕ) (state : State) → IsImageIn version bytes state
+contents_of : (version : Version) (bytes : List ℕ) (state : State) → IsImageIn version bytes state
     → are_told_in version state.rows ≡ true
 unfolding IsImageIn Makes
-told_of version bytes state image = leads_told start (whole version state) image.0 start_sound refl image.1
+contents_of version bytes state image = leads_contents start (whole version state) image.0 start_sound refl image.1
 
 -- version 2 tells all files
 all_told : (rows : List Row) → are_told_in versions.Two rows ≡ true
@@ -72,7 +72,7 @@ first_is bytes state = (there, back) where
   there : IsImageIn versions.One bytes state
       → IsWellFormed state × (are_told_in versions.One state.rows ≡ true) × (bytes ≡ text_in versions.One state)
   there image =
-      let is = image_of versions.One bytes state image in (is.0, told_of versions.One bytes state image, is.1)
+      let is = image_of versions.One bytes state image in (is.0, contents_of versions.One bytes state image, is.1)
 
   back : IsWellFormed state × (are_told_in versions.One state.rows ≡ true) × (bytes ≡ text_in versions.One state)
       → IsImageIn versions.One bytes state

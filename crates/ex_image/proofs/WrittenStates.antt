@@ -12,7 +12,7 @@ use Rattle.ex_image.specs.declared.tag.Tag.TheVariants as tags
 use Rattle.ex_image.specs.declared.version.Version.{Version}
 use Rattle.ex_image.specs.Grammar.{HasContent, IsImageIn, IsWrittenIn, Leads, Makes, is_shaped}
 use Rattle.ex_image.specs.Image.{directory_record, file_record, logical_record, records_of, request_record, text_in}
-use Rattle.ex_image.specs.Reading.{Reading, may_follow, start, tag_of, version_behind, with_entry, with_record}
+use Rattle.ex_image.specs.Reading.{Reading, may_follow, start, tag_of, version_after, with_entry, with_record}
 use Rattle.ex_image.specs.Record.{Entry, Head, Directory, Connected, Logical, File, Request, End, record_text}
 use Rattle.ex_image.proofs.Drafts.{IsSound, makes_sound, sound_more, start_sound}
 use Rattle.ex_image.proofs.Endings.{whole}
@@ -117,7 +117,7 @@ end_written version state bytes content = rw content refl
 written_more : (version : Version) (last : Tag) (state : State) (entry : Entry) (bytes : List ℕ) → Stands last state
     → may_follow last (tag_of entry) ≡ true → is_shaped entry ≡ true → IsWrittenIn version entry
     → HasContent entry bytes
-    → written (version_behind version entry) (tag_of entry) (with_entry state entry bytes)
+    → written (version_after version entry) (tag_of entry) (with_entry state entry bytes)
     ≡ written version last state ++ (entry, bytes) ∷ []
 written_more version tags.Start state (Head told) bytes stands place shape same content =
     head_written told state bytes stands.0 content

@@ -11,13 +11,13 @@ abbrev pub Tells : List ℕ → ImageFault → Type 0
 Tells bytes (Bad at kind) = FirstBad bytes at kind
 Tells bytes NoMemory = Unit {0}
 
--- a store of this state, unless memory is wanting
+-- [image-read] a store of this state, unless memory runs out
 abbrev pub IsStore : Result StoreWithRoom ImageFault → State → Type 0
 IsStore (Ok store) wanted = store.state ≡ wanted
 IsStore (Err (Bad at kind)) wanted = ⊥
 IsStore (Err NoMemory) wanted = Unit {0}
 
--- this fault, unless memory is wanting
+-- [image-fault] this fault, unless memory runs out
 abbrev pub IsBadAt : Result StoreWithRoom ImageFault → ℕ → Kind → Type 0
 IsBadAt (Ok store) place fault = ⊥
 IsBadAt (Err (Bad at kind)) place fault = (at ≡ place) × (kind ≡ fault)

@@ -38,7 +38,7 @@ part_at byte kind read bytes = do
   value ← read part.0
   Ok (value, part.1)
 
--- a field of a line, with the space behind it
+-- a field of a line, with the space after it
 abbrev pub field_at : {A : Type 0} → (List ℕ → Result A Kind) → List ℕ → Result (A × List ℕ) Kind
 field_at read bytes = part_at 32 Form read bytes
 
@@ -100,7 +100,7 @@ optional_of bytes =
 unfoldable pub after_of : List ℕ → Result (Option ℤ) Kind
 after_of bytes = optional_of bytes >>= λ day. Ok (option_map pos day)
 
--- so many bytes of a file, with the line feed behind them, and what follows it
+-- so many bytes of a file, with the line feed after them, and what follows it
 unfoldable pub content_at : ℕ → List ℕ → Result (List ℕ × List ℕ) Kind
 content_at size bytes =
     if nat_le (length bytes) size then Err Cut

@@ -55,7 +55,7 @@ is_shaped (Request entry) =
     && is_file_name entry.job && is_note entry.note
 is_shaped End = true
 
--- only a file has bytes behind its line: as many as the line says
+-- only a file has bytes after its line: as many as the line says
 abbrev pub HasContent : Entry → List ℕ → Type 0
 HasContent (Head version) bytes = bytes ≡ []
 HasContent (Directory name retention) bytes = bytes ≡ []
@@ -70,7 +70,7 @@ abbrev pub IsWrittenIn : Version → Entry → Type 0
 IsWrittenIn version (File written row size) = written ≡ version
 IsWrittenIn version entry = Unit {0}
 
--- a record may stand behind those that were read
+-- a record may stand after those that were read
 pub record MayStand (reading : Reading) (next : Entry × List ℕ) : Type 0 where
   pub shape : is_shaped next.0 ≡ true
   pub written : IsWrittenIn reading.version next.0
@@ -78,7 +78,7 @@ pub record MayStand (reading : Reading) (next : Entry × List ℕ) : Type 0 wher
   pub content : HasContent next.0 next.1
   pub faultless : fault_of reading.state next.0 ≡ None
 
--- each of these records may stand behind those before it
+-- each of these records may stand after those before it
 abbrev pub Leads : Reading → List (Entry × List ℕ) → Reading → Type 0
 Leads from [] to = to ≡ from
 Leads from (next ∷ more) to = MayStand from next × Leads (with_record from next) more to
@@ -89,7 +89,7 @@ Makes bytes reading rest =
     (records : List (Entry × List ℕ)) × Leads start records reading × (bytes ≡ flat_map record_text records ++ rest)
 
 -- the bytes are an image in this version, whose records say this state: the texts of records, each of which may stand
--- behind those before it, to the end
+-- after those before it, to the end
 unfoldable pub IsImageIn : Version → List ℕ → State → Type 0
 IsImageIn version bytes said = Makes bytes (record { version = version; last = tags.End; state = said }) []
 
@@ -104,7 +104,7 @@ unfoldable pub IsImage : List ℕ → State → Type 0
 IsImage bytes state =
     (version : Version) × (said : State) × IsImageIn version bytes said × (state ≡ state_in version said)
 
--- the first wrong record of bytes that are no image: behind records that may stand, and of which kind its fault is
+-- the first wrong record of bytes that are no image: after records that may stand, and of which kind its fault is
 pub record FirstBad (bytes : List ℕ) (place : ℕ) (kind : Kind) : Type 0 where
   pub reading : Reading
   pub rest : List ℕ

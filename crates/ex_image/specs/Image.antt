@@ -1,7 +1,7 @@
 -- The image: the text of a state of the file machine; and what a file holds that it is saved in.
 use Rattle.std.specs.Prelude.{◌≡◌, ◌⊎◌, ℕ, List, [], ◌∷◌, ◌++◌, length, map, Option, Some, None}
 use Rattle.std.specs.List.{flat_map}
-use Rattle.cm_io.specs.Told.{IsPart}
+use Rattle.cm_io.specs.Contents.{IsPart}
 use Rattle.cm_io.specs.declared.sink.Put.{Put}
 use Rattle.cm_io.specs.declared.sink.Put.TheVariants.{Done, Failed}
 use Rattle.ex_store.specs.declared.directory.Definition.{Definition}
@@ -13,7 +13,7 @@ use Rattle.ex_image.specs.declared.version.Version.{Version}
 use Rattle.ex_image.specs.declared.version.Version.TheVariants as versions
 use Rattle.ex_image.specs.Record.{Entry, Head, Directory, Connected, Logical, File, Request, End, record_text}
 
--- a record and the bytes behind its line
+-- a record and the bytes after its line
 abbrev pub directory_record : directories.Directory → Entry × List ℕ
 directory_record directory = (Directory directory.name directory.retention, [])
 
@@ -52,7 +52,7 @@ abbrev pub HoldsPart : List ℕ → Option (List ℕ) → Option (List ℕ) → 
 HoldsPart image before now =
     (now ≡ None) ⊎ (now ≡ before) ⊎ ((part : List ℕ) × IsPart part image × (now ≡ Some part))
 
--- saving an image leaves it in the file; where that fails, a prefix of it or less
+-- [image-written] saving an image leaves it in the file; where that fails, a prefix of it or less
 abbrev pub Saves : List ℕ → Option (List ℕ) → Option (List ℕ) → Put → Type 0
 Saves image before now Done = now ≡ Some image
 Saves image before now Failed = HoldsPart image before now

@@ -3,8 +3,8 @@ pub mod Fields
 pub mod Gives
 pub mod Grammar
 pub mod Image
+pub mod LineViews
 pub mod Lines
 pub mod Reading
 pub mod Record
-pub mod Said
 pub mod Writing

@@ -1,4 +1,4 @@
--- The records of an image, one behind the other: what was read so far, and the next record, or the kind of its fault.
+-- The records of an image, one after the other: what was read so far, and the next record, or the kind of its fault.
 use Rattle.std.specs.Prelude.{ℕ, ◌+◌, Bool, true, false, not, ◌&&◌, nat_lt, nat_le, if◌then◌else◌, List, [], ◌∷◌, length, Option, Some, None, Result, Ok, Err}
 use Rattle.std.specs.Ordering.{is_lt, on}
 use Rattle.std.specs.declared.cmp.Ordering.{Ordering}
@@ -122,7 +122,7 @@ fault_of state entry =
     else (if not (is_above state entry) then Some Order
     else (if not (has_room state entry) then Some Limit else None)))
 
--- the state with what a record says, and the bytes behind its line
+-- the state with what a record says, and the bytes after its line
 abbrev pub with_entry : State → Entry → List ℕ → State
 with_entry state (Head version) bytes = state
 with_entry state (Directory name retention) bytes = and_directory (record { name = name; retention = retention }) state
@@ -133,14 +133,14 @@ with_entry state (Request entry) bytes = and_request entry state
 with_entry state End bytes = state
 
 -- a head says in which version the image is
-abbrev pub version_behind : Version → Entry → Version
-version_behind version (Head told) = told
-version_behind version entry = version
+abbrev pub version_after : Version → Entry → Version
+version_after version (Head told) = told
+version_after version entry = version
 
 abbrev pub with_record : Reading → Entry × List ℕ → Reading
 with_record reading (entry, bytes) =
     record {
-      version = version_behind reading.version entry;
+      version = version_after reading.version entry;
       last = tag_of entry;
       state = with_entry reading.state entry bytes;
     }
@@ -159,27 +159,27 @@ is_ended tags.End = true
 unfoldable pub standing : Version → Tag → List ℕ → Result Entry Kind
 standing version last line = entry_of version line >>= λ entry. formed (λ entry. may_follow last (tag_of entry)) entry
 
--- the bytes behind a line, and what follows
-abbrev pub behind : Entry → List ℕ → Result (List ℕ × List ℕ) Kind
-behind (Head version) bytes = Ok ([], bytes)
-behind (Directory name retention) bytes = Ok ([], bytes)
-behind (Connected name) bytes = Ok ([], bytes)
-behind (Logical name directory) bytes = Ok ([], bytes)
-behind (File version row size) bytes = content_at size bytes
-behind (Request entry) bytes = Ok ([], bytes)
-behind End bytes = Ok ([], bytes)
+-- the bytes after a line, and what follows
+abbrev pub after : Entry → List ℕ → Result (List ℕ × List ℕ) Kind
+after (Head version) bytes = Ok ([], bytes)
+after (Directory name retention) bytes = Ok ([], bytes)
+after (Connected name) bytes = Ok ([], bytes)
+after (Logical name directory) bytes = Ok ([], bytes)
+after (File version row size) bytes = content_at size bytes
+after (Request entry) bytes = Ok ([], bytes)
+after End bytes = Ok ([], bytes)
 
 -- a value, unless there is a fault
 abbrev pub unless : {A : Type 0} → Option Kind → A → Result A Kind
 unless None value = Ok value
 unless (Some kind) value = Err kind
 
--- the next record, and what follows it; or the first kind of its fault. Behind the end nothing may stand.
-unfoldable pub record_behind : Reading → List ℕ → Result ((Entry × List ℕ) × List ℕ) Kind
-record_behind reading bytes = do
+-- the next record, and what follows it; or the first kind of its fault. After the end nothing may stand.
+unfoldable pub record_after : Reading → List ℕ → Result ((Entry × List ℕ) × List ℕ) Kind
+record_after reading bytes = do
   line ← part_at 10 Cut (standing reading.version reading.last) bytes
-  content ← behind line.0 line.1
+  content ← after line.0 line.1
   unless (fault_of reading.state line.0) ((line.0, content.0), content.1)
 
 unfoldable pub record_at : Reading → List ℕ → Result ((Entry × List ℕ) × List ℕ) Kind
-record_at reading bytes = if is_ended reading.last then Err Form else record_behind reading bytes
+record_at reading bytes = if is_ended reading.last then Err Form else record_after reading bytes

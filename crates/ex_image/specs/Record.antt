@@ -1,4 +1,4 @@
--- The records of an image, and the text of each: a line, and behind the line of a file its bytes.
+-- The records of an image, and the text of each: a line, and after the line of a file its bytes.
 use Rattle.std.specs.Prelude.{ℕ, ℤ, Bool, true, false, List, [], ◌∷◌, ◌++◌, Option, Some, None, codes}
 use Rattle.std.specs.Fmt.{decimal, signed_decimal}
 use Rattle.std.specs.List.{join_with_byte}
@@ -79,11 +79,11 @@ line_text (Request entry) =
     ∷ form_text entry.form ∷ after_text entry.after ∷ entry.job ∷ entry.note ∷ [])
 line_text End = codes "E"
 
--- what stands behind the line: the bytes of a file and a line feed
+-- what stands after the line: the bytes of a file and a line feed
 abbrev pub content_text : Entry → List ℕ → List ℕ
 content_text (File version row size) bytes = bytes ++ 10 ∷ []
 content_text entry bytes = []
 
--- the text of a record: its line, a line feed, and what stands behind it
+-- the text of a record: its line, a line feed, and what stands after it
 abbrev pub record_text : Entry × List ℕ → List ℕ
 record_text (entry, bytes) = line_text entry ++ 10 ∷ content_text entry bytes

@@ -1,8 +1,8 @@
 // What a record adds to a draft.
 ghost use Rattle.std.specs.Prelude.{◌≡◌, true, OnErr, OnOk, option_map, pos};
 ghost use Rattle.ex_image.specs.Reading.{is_in_range, is_there, with_entry};
-ghost use Rattle.ex_image.specs.Said.{entry_said, request_said};
-ghost use Rattle.ex_store.specs.Lent.{queue_entry};
+ghost use Rattle.ex_image.specs.LineViews.{entry_said, request_said};
+ghost use Rattle.ex_store.specs.Views.{queue_entry};
 ghost use Rattle.ex_store.specs.WellFormed.{IsDraft, is_day};
 
 use crate::entry::{Entry, FileEntry, RequestEntry};
@@ -65,7 +65,7 @@ fn add_file(
     draft.file(it.file.directory, it.file.name, it.file.kind, file)
 }
 
-/// Adds what a record says, and the bytes behind its line.
+/// Adds what a record says, and the bytes after its line.
 pub(crate) fn add(
     draft: &mut Draft,
     alloc: Global,

@@ -22,7 +22,7 @@ fn read(alloc: Global, bytes: &[u8]) -> Result<Reading, ImageFault>
         match reading.record_at(rest) {
             Ok(next) => {
                 reading.add(alloc, &next)?;
-                rest = next.behind;
+                rest = next.after;
             }
             Err(kind) => {
                 let at = (bytes.len() - rest.len()) as u32;
@@ -37,7 +37,9 @@ fn read(alloc: Global, bytes: &[u8]) -> Result<Reading, ImageFault>
 /// place and the kind of the first record that is wrong after those before it.
 #[tactic(auto, using(crate::proofs::DecodeLaws::whole_there))]
 pub fn decode(alloc: Global, bytes: &[u8]) -> Result<Store, ImageFault>
+    // [image-read]
     ensures image { IfOk result (λ store. IsImage bytes.now store.state) }
+    // [image-fault]
     ensures bad { IfErr result (λ fault. Tells bytes.now fault) }
     ensures only { (wanted : State) → IsImage bytes.now wanted → IsStore result wanted }
     ensures first { (place : ℕ) → (kind : Kind) → FirstBad bytes.now place kind → IsBadAt result place kind }

@@ -3,7 +3,7 @@ ghost use Rattle.cm_io.specs.declared.status.Kind.TheVariants.{Form};
 ghost use Rattle.ex_image.specs.Fields.{cut, file_of};
 ghost use Rattle.ex_image.specs.Gives.{Gives};
 ghost use Rattle.ex_image.specs.Lines.{connected_line, directory_line, entry_of, file_line, first_stamp, lettered, logical_line, request_line, second_stamp, stamp_at};
-ghost use Rattle.ex_image.specs.Said.{entry_said, name_said, stamp_said};
+ghost use Rattle.ex_image.specs.LineViews.{entry_said, name_said, stamp_said};
 
 use crate::Kind;
 use crate::entry::{Entry, FileEntry, FileName, RequestEntry, Stamp};

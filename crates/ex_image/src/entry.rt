@@ -1,7 +1,7 @@
 // What a line of an image says.
 ghost use Rattle.std.specs.Prelude.{◌≡◌};
 ghost use Rattle.ex_image.specs.Reading.{tag_of};
-ghost use Rattle.ex_image.specs.Said.{entry_said};
+ghost use Rattle.ex_image.specs.LineViews.{entry_said};
 
 use crate::tag::Tag;
 use crate::version::Version;

@@ -3,8 +3,8 @@ ghost use Rattle.std.specs.Prelude.{◌≡◌, ◌≤◌, ℕ, List, pos, option
 ghost use Rattle.std.specs.Ordering.{is_lt, on};
 ghost use Rattle.cm_files.specs.Catalogue.{by_bytes};
 ghost use Rattle.ex_image.specs.Reading.{fault_of, has_room, is_above, is_in_range, is_there, stands_above};
-ghost use Rattle.ex_image.specs.Said.{entry_said, row_said};
-ghost use Rattle.ex_store.specs.Lent.{row_of_view};
+ghost use Rattle.ex_image.specs.LineViews.{entry_said, row_said};
+ghost use Rattle.ex_store.specs.Views.{row_of_view};
 ghost use Rattle.ex_store.specs.Rows.{by_row, total};
 ghost use Rattle.ex_store.specs.WellFormed.{is_day, is_numbered, is_reading, is_stamped};
 
@@ -175,7 +175,7 @@ fn has_room(parts: &Parts<'_>, bytes: usize, entry: &Entry<'_>) -> bool
     }
 }
 
-/// The first fault of a record that may stand here by its form, behind those that made these parts, whose files have
+/// The first fault of a record that may stand here by its form, after those that made these parts, whose files have
 /// so many bytes.
 #[tactic(auto, unfolding(crate::specs::Reading::fault_of))]
 pub(crate) fn fault_of(parts: &Parts<'_>, bytes: usize, entry: &Entry<'_>) -> Option<Kind>

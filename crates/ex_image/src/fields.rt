@@ -27,7 +27,7 @@ pub(crate) fn cut(bytes: &[u8], byte: u8, kind: Kind) -> Result<(&[u8], &[u8]), 
 {
     let (before, rest) = bytes.split_at(part_size(bytes, byte));
     match rest {
-        [_, behind @ ..] => Ok((before, behind)),
+        [_, after @ ..] => Ok((before, after)),
         [] => Err(kind),
     }
 }
@@ -159,7 +159,7 @@ pub(crate) fn after_of(bytes: &[u8]) -> Result<Option<u64>, Kind>
     Ok(day)
 }
 
-/// So many bytes of a file, with the line feed behind them, and what follows it.
+/// So many bytes of a file, with the line feed after them, and what follows it.
 #[tactic(auto, unfolding(crate::specs::Fields::content_at))]
 pub(crate) fn content_at(size: u64, bytes: &[u8]) -> Result<(&[u8], &[u8]), Kind>
     ensures { Gives (λ x. (x.0.now, x.1.now)) result (content_at size bytes.now) }
@@ -169,7 +169,7 @@ pub(crate) fn content_at(size: u64, bytes: &[u8]) -> Result<(&[u8], &[u8]), Kind
     }
     let (content, rest) = bytes.split_at(size as usize);
     match rest {
-        [b'\n', behind @ ..] => Ok((content, behind)),
+        [b'\n', after @ ..] => Ok((content, after)),
         _ => Err(Kind::Form),
     }
 }

@@ -18,7 +18,7 @@ use ex_store::{Parts, Store};
 
 // Appends a line and the records of some parts.
 #[tactic(auto, using(crate::proofs::Appends::pieces))]
-fn put_behind<S: Series, T: Target>(line: &[u8], parts: &S, target: &mut T) -> Put
+fn put_after<S: Series, T: Target>(line: &[u8], parts: &S, target: &mut T) -> Put
     requires opened { IsTrue (T.outside target.old).is_open }
     requires sound { S.is_sound parts.now ≡ true }
     ensures { Appends T.tells (T.outside target.old) (T.outside target.new)
@@ -39,11 +39,11 @@ fn put_names<T: Target>(parts: &Parts<'_>, target: &mut T) -> Put
         ++ (record_text (records.Connected parts.now.connected, [])
         ++ flat_map record_text (map logical_record parts.now.logical))) result }
 {
-    if let Put::Failed = put_behind(b"EXEC20 2\n", &Directories { parts }, target) {
+    if let Put::Failed = put_after(b"EXEC20 2\n", &Directories { parts }, target) {
         return Put::Failed;
     }
     let line = connected_line(parts.connected());
-    put_behind(line.as_bytes(), &Logicals { parts }, target)
+    put_after(line.as_bytes(), &Logicals { parts }, target)
 }
 
 // Appends the files, the entries of the print queue and the end.
@@ -79,7 +79,7 @@ pub(crate) fn put_all<T: Target>(parts: &Parts<'_>, target: &mut T) -> Put
 }
 
 /// Writes the image of a store, in version 2, to a file of a host: a head, a line for each directory, for the connected
-/// one, for each logical name, for each file, with its bytes behind it, and for each entry of the print queue, and an
+/// one, for each logical name, for each file, with its bytes after it, and for each entry of the print queue, and an
 /// end. It takes no memory. The file is created once. Where the host fails, the file is absent, as before, or holds a
 /// prefix of the image. No file is open afterwards.
 #[tactic(auto, using(cm_io::proofs::Additions::rose_early, cm_io::proofs::Additions::rose_late, crate::proofs::Soundness::forms_of_state,))]
@@ -87,6 +87,7 @@ pub fn encode<H: Host>(store: &Store, host: &mut H, name: &str) -> Put
     ensures saved { IsTrue H.tells
         → Saves (image_text store.now.state) (H.files host.old name.now) (H.files host.new name.now) result }
     ensures others { IsTrue H.tells → KeepsOthers name.now (H.files host.old) (H.files host.new) }
+    // [image-written]
     ensures closed { H.is_open host.new ≡ false }
     ensures created { H.creates host.new ≡ next_count (H.creates host.old) }
     ensures loads { H.loads host.new ≡ H.loads host.old }

@@ -42,7 +42,7 @@ impl Line {
         Line { text: line }
     }
 
-    // Puts a text behind the line.
+    // Puts a text after the line.
     fn push(&mut self, text: &str)
         requires short { length text.now ≤ NAME_LIMIT }
         requires room { length self.old + NAME_LIMIT ≤ LINE_ROOM }
@@ -52,7 +52,7 @@ impl Line {
         self.text.push_str(text);
     }
 
-    // Puts the digits of a number behind the line.
+    // Puts the digits of a number after the line.
     fn push_number(&mut self, number: u64)
         requires { length self.old + DIGIT_LIMIT ≤ LINE_ROOM }
         ensures bytes { self.new ≡ self.old ++ decimal number }
@@ -61,7 +61,7 @@ impl Line {
         self.text.push_str(decimal_digits(number).as_str());
     }
 
-    /// Puts a space and a text behind the line.
+    /// Puts a space and a text after the line.
     pub(crate) fn field(&mut self, text: &str)
         requires short { length text.now ≤ NAME_LIMIT }
         requires room { length self.old + FIELD_LIMIT ≤ LINE_ROOM }
@@ -72,7 +72,7 @@ impl Line {
         self.push(text);
     }
 
-    /// Puts a space and a number behind the line.
+    /// Puts a space and a number after the line.
     pub(crate) fn number(&mut self, number: u64)
         requires { length self.old + FIELD_LIMIT ≤ LINE_ROOM }
         ensures bytes { self.new ≡ self.old ++ 32 ∷ decimal number }
@@ -82,7 +82,7 @@ impl Line {
         self.push_number(number);
     }
 
-    /// Puts a space and a number behind the line, or a hyphen where there is none.
+    /// Puts a space and a number after the line, or a hyphen where there is none.
     pub(crate) fn optional(&mut self, number: Option<u64>)
         requires { length self.old + FIELD_LIMIT ≤ LINE_ROOM }
         ensures bytes { self.new ≡ self.old ++ 32 ∷ optional_text number }
@@ -94,7 +94,7 @@ impl Line {
         }
     }
 
-    // Puts a space and the number of a day behind the line.
+    // Puts a space and the number of a day after the line.
     fn day(&mut self, day: i32)
         requires { length self.old + FIELD_LIMIT ≤ LINE_ROOM }
         ensures bytes { self.new ≡ self.old ++ 32 ∷ signed_decimal day }
@@ -109,7 +109,7 @@ impl Line {
         }
     }
 
-    /// Puts a space and the number of a day behind the line, or a hyphen where there is none.
+    /// Puts a space and the number of a day after the line, or a hyphen where there is none.
     pub(crate) fn after(&mut self, after: Option<i32>)
         requires { length self.old + FIELD_LIMIT ≤ LINE_ROOM }
         ensures bytes { self.new ≡ self.old ++ 32 ∷ after_text after }
@@ -121,7 +121,7 @@ impl Line {
         }
     }
 
-    /// Puts a space and the name, type and generation of a file behind the line.
+    /// Puts a space and the name, type and generation of a file after the line.
     pub(crate) fn file(&mut self, name: &Name, kind: &Name, generation: u32)
         requires { length self.old + FILE_FIELD_LIMIT ≤ LINE_ROOM }
         ensures bytes { self.new

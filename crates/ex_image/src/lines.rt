@@ -3,7 +3,7 @@ ghost use Rattle.std.specs.Prelude.{◌≡◌, ◌+◌, ◌*◌, ◌<◌, ◌≤
 ghost use Rattle.std.specs.Fmt.{decimal};
 ghost use Rattle.ex_store.specs.declared.limits.TheConstants.{FORMS};
 ghost use Rattle.ex_store.specs.Forms.{form_text};
-ghost use Rattle.ex_store.specs.Lent.{definition_of_view, directory_of_view, row_of_view};
+ghost use Rattle.ex_store.specs.Views.{definition_of_view, directory_of_view, row_of_view};
 ghost use Rattle.ex_store.specs.Rows.{full_of};
 ghost use Rattle.ex_image.specs.declared.line.TheConstants.{FIELD_LIMIT};
 ghost use Rattle.ex_image.specs.declared.version.Version.TheVariants as versions;

@@ -1,9 +1,9 @@
-// The records of an image, one behind the other.
+// The records of an image, one after the other.
 ghost use Rattle.std.specs.Prelude.{◌≡◌, ◌==◌, ◌&&◌, true, OnErr, OnOk, length};
 ghost use Rattle.ex_image.specs.Gives.{Gives};
 ghost use Rattle.ex_image.specs.Grammar.{MayStand, state_in};
-ghost use Rattle.ex_image.specs.Reading.{behind, is_ended, record_at, record_behind, standing, start, version_behind, with_record};
-ghost use Rattle.ex_image.specs.Said.{entry_said, next_said};
+ghost use Rattle.ex_image.specs.Reading.{after, is_ended, record_after, record_at, standing, start, version_after, with_record};
+ghost use Rattle.ex_image.specs.LineViews.{entry_said, next_said};
 ghost use Rattle.ex_store.specs.State.{has_directory};
 ghost use Rattle.ex_store.specs.WellFormed.{IsDraft};
 
@@ -20,12 +20,12 @@ use ex_store::{Draft, Store};
 use std::alloc::Global;
 use std::marker::Model;
 
-/// A record that was read: what its line says, the bytes behind the line, and what follows.
+/// A record that was read: what its line says, the bytes after the line, and what follows.
 #[derive(Clone, Copy)]
 pub(crate) struct Next<'a> {
     pub(crate) entry: Entry<'a>,
     pub(crate) content: &'a [u8],
-    pub(crate) behind: &'a [u8],
+    pub(crate) after: &'a [u8],
 }
 
 /// What was read so far. Contracts see in which version the image is, which record was read last, and the state that
@@ -51,7 +51,7 @@ impl Model for Reading {
     ghost invariant = { λ it. it.bytes ≡ total it.draft.rows };
 }
 
-// A line that may stand behind a record of an image of this version.
+// A line that may stand after a record of an image of this version.
 #[tactic(auto, unfolding(crate::specs::Reading::standing))]
 fn standing(version: Version, last: Tag, line: &[u8]) -> Result<Entry<'_>, Kind>
     ensures { Gives entry_said result (standing version last line.now) }
@@ -64,9 +64,9 @@ fn standing(version: Version, last: Tag, line: &[u8]) -> Result<Entry<'_>, Kind>
     }
 }
 
-// The bytes behind a line, and what follows.
-fn behind<'a>(entry: &Entry<'_>, bytes: &'a [u8]) -> Result<(&'a [u8], &'a [u8]), Kind>
-    ensures { Gives (λ x. (x.0.now, x.1.now)) result (behind (entry_said entry.now) bytes.now) }
+// The bytes after a line, and what follows.
+fn after<'a>(entry: &Entry<'_>, bytes: &'a [u8]) -> Result<(&'a [u8], &'a [u8]), Kind>
+    ensures { Gives (λ x. (x.0.now, x.1.now)) result (after (entry_said entry.now) bytes.now) }
 {
     match entry {
         Entry::File(it) => content_at(it.size, bytes),
@@ -74,9 +74,9 @@ fn behind<'a>(entry: &Entry<'_>, bytes: &'a [u8]) -> Result<(&'a [u8], &'a [u8])
     }
 }
 
-// In which version an image is, behind a record.
-fn version_behind(version: Version, entry: &Entry<'_>) -> Version
-    ensures { result ≡ version_behind version (entry_said entry.now) }
+// In which version an image is, after a record.
+fn version_after(version: Version, entry: &Entry<'_>) -> Version
+    ensures { result ≡ version_after version (entry_said entry.now) }
 {
     match entry {
         Entry::Head(told) => *told,
@@ -105,19 +105,19 @@ impl Reading {
     }
 
     // The next record, where one may follow.
-    #[tactic(auto, unfolding(crate::specs::Reading::record_behind))]
-    fn record_behind<'a>(&self, bytes: &'a [u8]) -> Result<Next<'a>, Kind>
-        ensures { Gives next_said result (record_behind self.now bytes.now) }
+    #[tactic(auto, unfolding(crate::specs::Reading::record_after))]
+    fn record_after<'a>(&self, bytes: &'a [u8]) -> Result<Next<'a>, Kind>
+        ensures { Gives next_said result (record_after self.now bytes.now) }
     {
         let (line, rest) = cut(bytes, b'\n', Kind::Cut)?;
         let entry = standing(self.version, self.last, line)?;
-        let (content, behind) = behind(&entry, rest)?;
+        let (content, after) = after(&entry, rest)?;
         match fault_of(&self.draft.parts(), self.bytes, &entry) {
             Some(kind) => Err(kind),
             None => Ok(Next {
                 entry,
                 content,
-                behind,
+                after,
             }),
         }
     }
@@ -130,7 +130,7 @@ impl Reading {
         if self.last.is_ended() {
             return Err(Kind::Form);
         }
-        self.record_behind(bytes)
+        self.record_after(bytes)
     }
 
     /// Adds a record. After NoMemory all is as before.
@@ -142,7 +142,7 @@ impl Reading {
     {
         add(&mut self.draft, alloc, &next.entry, next.content)?;
         self.bytes += next.content.len();
-        self.version = version_behind(self.version, &next.entry);
+        self.version = version_after(self.version, &next.entry);
         self.last = next.entry.tag();
         Ok(())
     }

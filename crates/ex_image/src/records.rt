@@ -14,7 +14,7 @@ use ex_store::{Parts, QueueEntry};
 
 /// Parts of a store of one kind, in their order. Each has a record of its own.
 pub(crate) trait Series {
-    /// What their lines say, and the bytes behind each.
+    /// What their lines say, and the bytes after each.
     ghost records: { Self → List (Entry × List ℕ) };
 
     /// What a store sees to and their lines ask: that an entry of the print queue is for a form that there is.
@@ -130,7 +130,7 @@ fn put_file<T: Target>(line: &[u8], bytes: &[u8], target: &mut T) -> Put
     target.append(b"\n")
 }
 
-/// Appends the records of some parts, one behind the other.
+/// Appends the records of some parts, one after the other.
 pub(crate) fn put_each<S: Series, T: Target>(parts: &S, target: &mut T) -> Put
     requires opened { IsTrue (T.outside target.old).is_open }
     requires sound { S.is_sound parts.now ≡ true }

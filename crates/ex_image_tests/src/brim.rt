@@ -34,7 +34,7 @@ fn push_logical_names(image: &mut String) -> Result<(), AllocError> {
     Ok(())
 }
 
-// Puts a file of this number with these bytes behind an image.
+// Puts a file of this number with these bytes after an image.
 fn push_file(
     alloc: Global,
     image: &mut Vec<u8>,

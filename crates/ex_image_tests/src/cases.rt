@@ -1,4 +1,4 @@
-// Cases as texts: a line each, with what is done and, behind an arrow, what is wanted.
+// Cases as texts: a line each, with what is done and, after an arrow, what is wanted.
 
 use std::alloc::{AllocError, Global};
 use std::process::Abort;

@@ -50,7 +50,7 @@ F SMITH LOGIN.CMD.1 U 86400 9|INF VER^||
 F SMITH REPORT.TXT.3 U 946684800 7|HELLO^||
 E|";
 
-// Puts a record behind those before it, byte by byte: as long as a byte of it is wanting, it is the one that is cut.
+// Puts a record after those before it, byte by byte: as long as a byte of it is wanting, it is the one that is cut.
 fn push_record(
     rt: &(impl Abort + AllocGlobal),
     image: &mut Vec<u8>,

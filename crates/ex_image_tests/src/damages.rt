@@ -38,21 +38,21 @@ fn image_of(alloc: Global, front: &[u8], line: &str) -> Result<Vec<u8>, AllocErr
     Ok(image)
 }
 
-// Each byte of the line of a file counts, and the line feeds behind it and behind the bytes of the file; these may be
+// Each byte of the line of a file counts, and the line feeds after it and after the bytes of the file; these may be
 // any.
 fn each_byte_counts(rt: &(impl Abort + AllocGlobal), front: &[u8], line: &str) -> Result<(), Fail> {
     let image = image_of(rt.alloc(), front, line)?;
     let start = front.len();
     let held = start.saturating_add(line.len()).saturating_add(1);
-    let behind = held.saturating_add(4);
+    let after = held.saturating_add(4);
     assert_eq!(rt; fault(rt, &image), None);
     goes_wrong(rt, &image, start, held, Some((start, Kind::Form)))?;
-    goes_wrong(rt, &image, held, behind, None)?;
+    goes_wrong(rt, &image, held, after, None)?;
     goes_wrong(
         rt,
         &image,
-        behind,
-        behind.saturating_add(1),
+        after,
+        after.saturating_add(1),
         Some((start, Kind::Form)),
     )
 }

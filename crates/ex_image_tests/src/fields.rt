@@ -1,10 +1,10 @@
 // Lines whose fields are not of their forms.
 
-use crate::given::{FIRST_FRONT, FRONT, all_behind};
+use crate::given::{FIRST_FRONT, FRONT, all_after};
 
 #[test]
 fn a_logical_name_stands_before_its_directory(rt: HostRuntime) {
-    all_behind(
+    all_after(
         &rt,
         FRONT,
         "0 Form",
@@ -29,7 +29,7 @@ L A-NAME-OF-FORTY-BYTES-IN-ITS-LENGTH-OF-1 OPERATOR|",
 
 #[test]
 fn a_file_has_a_name_a_type_and_a_generation(rt: HostRuntime) {
-    all_behind(
+    all_after(
         &rt,
         FRONT,
         "0 Form",
@@ -52,7 +52,7 @@ F OPERATOR A.A-TYPE-OF-FORTY-BYTES-IN-ITS-LENGTH-OF-1.1 U 0 0 - 0||",
 
 #[test]
 fn a_file_has_a_mark_a_count_a_moment_and_a_length(rt: HostRuntime) {
-    all_behind(
+    all_after(
         &rt,
         FRONT,
         "0 Form",
@@ -87,7 +87,7 @@ F OPERATOR A..1 U 0||",
 
 #[test]
 fn a_file_has_a_moment_of_reading_or_a_hyphen(rt: HostRuntime) {
-    all_behind(
+    all_after(
         &rt,
         FRONT,
         "0 Form",
@@ -104,9 +104,10 @@ F OPERATOR A..1 U 0 0 10000000000 0||",
     );
 }
 
+// [image-fault]
 #[test]
 fn a_file_has_a_name_in_version_1(rt: HostRuntime) {
-    all_behind(
+    all_after(
         &rt,
         FIRST_FRONT,
         "0 Form",
@@ -129,7 +130,7 @@ F OPERATOR A.A-TYPE-OF-FORTY-BYTES-IN-ITS-LENGTH-OF-1.1 U 0 0||",
 
 #[test]
 fn a_file_has_a_mark_a_moment_and_a_length_in_version_1(rt: HostRuntime) {
-    all_behind(
+    all_after(
         &rt,
         FIRST_FRONT,
         "0 Form",
@@ -156,7 +157,7 @@ F OPERATOR A..1 U - 0||",
 
 #[test]
 fn a_request_has_copies_a_form_and_a_day(rt: HostRuntime) {
-    all_behind(
+    all_after(
         &rt,
         FRONT,
         "0 Form",
@@ -181,7 +182,7 @@ Q OPERATOR A..1 1 NORMAL  A |",
 
 #[test]
 fn a_request_has_a_job_and_a_note(rt: HostRuntime) {
-    all_behind(
+    all_after(
         &rt,
         FRONT,
         "0 Form",

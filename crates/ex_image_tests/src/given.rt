@@ -50,7 +50,7 @@ pub(crate) fn fault(rt: &(impl Abort + AllocGlobal), image: &[u8]) -> Option<(us
     }
 }
 
-// The bytes, and lines behind them.
+// The bytes, and lines after them.
 fn joined(alloc: Global, front: &[u8], lines: &str) -> Result<Vec<u8>, AllocError> {
     let lines = bytes_of(alloc, lines)?;
     let mut image = Vec::from_slice(alloc, front)?;
@@ -58,8 +58,8 @@ fn joined(alloc: Global, front: &[u8], lines: &str) -> Result<Vec<u8>, AllocErro
     Ok(image)
 }
 
-// Where lines behind a front go wrong, counted from the first of them, and how.
-fn fault_behind(
+// Where lines after a front go wrong, counted from the first of them, and how.
+fn fault_after(
     rt: &(impl Abort + AllocGlobal),
     front: &[u8],
     lines: &str,
@@ -76,24 +76,24 @@ fn fault_behind(
 
 fn goes_wrong(rt: &(impl Abort + AllocGlobal), front: &[u8], case: &str) {
     let (lines, wanted) = halves(rt, case);
-    let told = fault_behind(rt, front, lines).expect(rt, "memory");
+    let told = fault_after(rt, front, lines).expect(rt, "memory");
     is_told(rt, &told, wanted, case);
 }
 
-/// Lines behind a front, `|` and `^` standing for a line feed and a carriage return, go wrong as each case says.
-pub(crate) fn each_behind(rt: &(impl Abort + AllocGlobal), front: &[u8], cases: &str) {
+/// Lines after a front, `|` and `^` standing for a line feed and a carriage return, go wrong as each case says.
+pub(crate) fn each_after(rt: &(impl Abort + AllocGlobal), front: &[u8], cases: &str) {
     for case in cases.lines() {
         goes_wrong(rt, front, case);
     }
 }
 
 fn is_fault(rt: &(impl Abort + AllocGlobal), front: &[u8], lines: &str, wanted: &str) {
-    let told = fault_behind(rt, front, lines).expect(rt, "memory");
+    let told = fault_after(rt, front, lines).expect(rt, "memory");
     is_told(rt, &told, wanted, lines);
 }
 
 /// The same where all go wrong in one way.
-pub(crate) fn all_behind(rt: &(impl Abort + AllocGlobal), front: &[u8], wanted: &str, cases: &str) {
+pub(crate) fn all_after(rt: &(impl Abort + AllocGlobal), front: &[u8], wanted: &str, cases: &str) {
     for lines in cases.lines() {
         is_fault(rt, front, lines, wanted);
     }

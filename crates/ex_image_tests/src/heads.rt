@@ -1,10 +1,10 @@
 // The head, the directories, the connected one and the end.
 
-use crate::given::{FRONT, all_behind, each_behind};
+use crate::given::{FRONT, all_after, each_after};
 
 #[test]
 fn an_image_begins_with_its_head(rt: HostRuntime) {
-    each_behind(
+    each_after(
         &rt,
         b"",
         "\
@@ -31,7 +31,7 @@ EXEC20 1| -> 9 Cut",
 
 #[test]
 fn directories_follow_the_head(rt: HostRuntime) {
-    each_behind(
+    each_after(
         &rt,
         b"",
         "\
@@ -52,7 +52,7 @@ EXEC20 2|D AB 1|D A 1| -> 16 Order",
 
 #[test]
 fn a_directory_has_a_name_and_a_number(rt: HostRuntime) {
-    all_behind(
+    all_after(
         &rt,
         b"",
         "9 Form",
@@ -81,7 +81,7 @@ EXEC20 2|D A-NAME-OF-FORTY-BYTES-IN-ITS-LENGTH-OF-1 1|",
 
 #[test]
 fn one_of_them_is_connected(rt: HostRuntime) {
-    each_behind(
+    each_after(
         &rt,
         b"",
         "\
@@ -104,8 +104,8 @@ EXEC20 2|D A 1|C A|EXEC20 2| -> 19 Form",
 }
 
 #[test]
-fn nothing_stands_behind_the_end(rt: HostRuntime) {
-    each_behind(
+fn nothing_stands_after_the_end(rt: HostRuntime) {
+    each_after(
         &rt,
         FRONT,
         "\

@@ -1,6 +1,6 @@
 // One too many of each kind, and too many bytes.
 
-use crate::given::{FRONT, each_behind, fault};
+use crate::given::{FRONT, each_after, fault};
 use ex_image::Kind::Range;
 use std::alloc::{AllocError, Global};
 use std::test::Fail;
@@ -17,7 +17,7 @@ fn directories(alloc: Global) -> Result<String, AllocError> {
 #[test]
 fn there_are_64_directories(rt: HostRuntime) -> Result<(), Fail> {
     let image = directories(rt.alloc())?;
-    each_behind(
+    each_after(
         &rt,
         image.as_bytes(),
         "\
@@ -46,7 +46,7 @@ fn logical_names(alloc: Global) -> Result<String, AllocError> {
 #[test]
 fn there_are_64_logical_names(rt: HostRuntime) -> Result<(), Fail> {
     let image = logical_names(rt.alloc())?;
-    each_behind(
+    each_after(
         &rt,
         image.as_bytes(),
         "\
@@ -70,7 +70,7 @@ fn requests(alloc: Global) -> Result<String, AllocError> {
 #[test]
 fn there_are_64_requests(rt: HostRuntime) -> Result<(), Fail> {
     let image = requests(rt.alloc())?;
-    each_behind(
+    each_after(
         &rt,
         image.as_bytes(),
         "\
@@ -94,7 +94,7 @@ fn files(alloc: Global) -> Result<String, AllocError> {
 #[test]
 fn there_are_4096_files(rt: HostRuntime) -> Result<(), Fail> {
     let image = files(rt.alloc())?;
-    each_behind(
+    each_after(
         &rt,
         image.as_bytes(),
         "\
@@ -106,7 +106,7 @@ E| -> an image",
     Ok(())
 }
 
-// Puts a file of so many bytes behind an image.
+// Puts a file of so many bytes after an image.
 fn push_file(image: &mut Vec<u8>, line: &str, size: usize) -> Result<(), AllocError> {
     image.extend_from_slice(line.as_bytes())?;
     for _ in 0..size {
@@ -145,7 +145,7 @@ fn full(alloc: Global) -> Result<Vec<u8>, AllocError> {
 #[test]
 fn the_files_have_8388608_bytes(rt: HostRuntime) -> Result<(), Fail> {
     let image = full(rt.alloc())?;
-    each_behind(
+    each_after(
         &rt,
         &image,
         "\

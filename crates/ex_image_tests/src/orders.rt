@@ -1,10 +1,10 @@
 // Records that name no directory, or that stand out of order.
 
-use crate::given::{FRONT, each_behind};
+use crate::given::{FRONT, each_after};
 
 #[test]
 fn each_directory_that_is_named_is_there(rt: HostRuntime) {
-    each_behind(
+    each_after(
         &rt,
         FRONT,
         "\
@@ -19,7 +19,7 @@ Q B A..1 64 NORMAL - A | -> 0 Range",
 
 #[test]
 fn logical_names_and_files_ascend(rt: HostRuntime) {
-    each_behind(
+    each_after(
         &rt,
         FRONT,
         "\
@@ -37,7 +37,7 @@ F OPERATOR B..1 U 0 0 - 0||F NONE A..1 U 0 0 - 0|| -> 27 Name",
 
 #[test]
 fn files_ascend_by_their_directories_first(rt: HostRuntime) {
-    each_behind(
+    each_after(
         &rt,
         b"",
         "EXEC20 2|D A 1|D B 1|C A|F B A..1 U 0 0 - 0||F A B..1 U 0 0 - 0|| -> 45 Order",
@@ -46,7 +46,7 @@ fn files_ascend_by_their_directories_first(rt: HostRuntime) {
 
 #[test]
 fn the_kinds_have_their_order(rt: HostRuntime) {
-    each_behind(
+    each_after(
         &rt,
         FRONT,
         "\

@@ -1,10 +1,10 @@
 // Numbers outside their ranges.
 
-use crate::given::{FIRST_FRONT, FRONT, all_behind, each_behind};
+use crate::given::{FIRST_FRONT, FRONT, all_after, each_after};
 
 #[test]
 fn the_numbers_of_a_file_have_ranges(rt: HostRuntime) {
-    all_behind(
+    all_after(
         &rt,
         FRONT,
         "0 Range",
@@ -24,7 +24,7 @@ F OPERATOR A..1 U 0 0 9999999999 0||",
 
 #[test]
 fn the_numbers_of_a_file_have_ranges_in_version_1(rt: HostRuntime) {
-    all_behind(
+    all_after(
         &rt,
         FIRST_FRONT,
         "0 Range",
@@ -39,7 +39,7 @@ F OPERATOR A..1 U 9999999999 0||",
 
 #[test]
 fn the_numbers_of_a_request_have_ranges(rt: HostRuntime) {
-    all_behind(
+    all_after(
         &rt,
         FRONT,
         "0 Range",
@@ -59,7 +59,7 @@ Q OPERATOR A..1 1 NORMAL 9999999999 A |",
 
 #[test]
 fn the_bytes_of_a_file_are_as_many_as_it_says(rt: HostRuntime) {
-    each_behind(
+    each_after(
         &rt,
         FRONT,
         "\
@@ -77,7 +77,7 @@ F OPERATOR A..0 U 0 0 - 0|x| -> 0 Form
 F OPERATOR A..1 U 64 0 - 5|x| -> 0 Cut
 F OPERATOR A..1 U 64 0 - 0|x| -> 0 Form",
     );
-    each_behind(
+    each_after(
         &rt,
         FIRST_FRONT,
         "\

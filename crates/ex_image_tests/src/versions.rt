@@ -24,6 +24,7 @@ fn migrates(rt: &(impl Abort + AllocGlobal), case: &str) -> Result<(), Fail> {
     Ok(())
 }
 
+// [image-read]
 #[test]
 fn each_file_keeps_what_its_directory_keeps(rt: HostRuntime) -> Result<(), Fail> {
     let cases = "\

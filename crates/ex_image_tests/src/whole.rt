@@ -49,6 +49,7 @@ fn comes_back(rt: &(impl Abort + AllocGlobal), image: &[u8]) -> Result<bool, Fai
     Ok(put == Put::Done && host.output() == Some(image))
 }
 
+// [image-written]
 #[test]
 fn an_image_comes_back(rt: HostRuntime) -> Result<(), Fail> {
     assert!(rt; comes_back(&rt, NEW_IMAGE)? && comes_back(&rt, SMALL_IMAGE)?);
@@ -79,7 +80,7 @@ fn a_new_store_has_35_bytes(rt: HostRuntime) -> Result<(), Fail> {
 }
 
 #[test]
-fn the_files_stand_behind_their_lines(rt: HostRuntime) -> Result<(), Fail> {
+fn the_files_stand_after_their_lines(rt: HostRuntime) -> Result<(), Fail> {
     assert!(rt; IMAGE.len() == 104 && is_written(rt.alloc(), &store(&rt), IMAGE)?);
     Ok(())
 }

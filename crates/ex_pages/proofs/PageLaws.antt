@@ -11,8 +11,8 @@ use Rattle.cm_io.specs.declared.sink.Sink.{Ghosts}
 use Rattle.cm_io.specs.declared.writer.Writer.{Writer}
 use Rattle.cm_io.proofs.Texts.{writes_both}
 use Rattle.ex_pages.specs.Pages.{body_text, form_feed, page_text, row_text, rows_of}
-use Rattle.ex_pages.specs.Parts.{last_part, parts, parts_behind}
-use Rattle.ex_pages.specs.Walk.{count_behind, feed_if, rows_behind}
+use Rattle.ex_pages.specs.Parts.{last_part, parts, parts_after}
+use Rattle.ex_pages.specs.Walk.{count_after, feed_if, rows_after}
 use Rattle.ex_pages.specs.declared.body.TheConstants.{PAGE_ROWS}
 
 -- the rows that are left at the end are a page, where there are any
@@ -44,8 +44,8 @@ brackets_without a b d e =
 
 -- the pages of rows, of which the first page is begun
 all_text : (begun rows : List (List ℕ)) (count : ℕ) → length begun ≡ count
-    → flat_map page_text (parts_behind PAGE_ROWS begun rows)
-    ≡ flat_map row_text begun ++ (rows_behind count rows ++ feed_if (not (count_behind count rows == 0)))
+    → flat_map page_text (parts_after PAGE_ROWS begun rows)
+    ≡ flat_map row_text begun ++ (rows_after count rows ++ feed_if (not (count_after count rows == 0)))
 unfolding page_text
 all_text begun [] count is =
     end_text begun ∙ ap (λ (n : ℕ). flat_map row_text begun ++ feed_if (not (n == 0))) is
@@ -54,32 +54,32 @@ all_text begun (row ∷ rows) count is =
     (all_text (begun ++ row ∷ []) rows (count + 1) (length-append begun (row ∷ []) ∙ ap (λ (n : ℕ). n + 1) is))
   where
     by : (test : Bool) → (count + 1 == PAGE_ROWS) ≡ test
-        → flat_map page_text (parts_behind PAGE_ROWS [] rows) ≡ rows_behind 0 rows ++ feed_if (not (count_behind 0 rows == 0))
-        → flat_map page_text (parts_behind PAGE_ROWS (begun ++ row ∷ []) rows)
-        ≡ flat_map row_text (begun ++ row ∷ []) ++ (rows_behind (count + 1) rows ++ feed_if (not (count_behind (count + 1) rows == 0)))
-        → flat_map page_text (parts_behind PAGE_ROWS begun (row ∷ rows))
-        ≡ flat_map row_text begun ++ (rows_behind count (row ∷ rows) ++ feed_if (not (count_behind count (row ∷ rows) == 0)))
+        → flat_map page_text (parts_after PAGE_ROWS [] rows) ≡ rows_after 0 rows ++ feed_if (not (count_after 0 rows == 0))
+        → flat_map page_text (parts_after PAGE_ROWS (begun ++ row ∷ []) rows)
+        ≡ flat_map row_text (begun ++ row ∷ []) ++ (rows_after (count + 1) rows ++ feed_if (not (count_after (count + 1) rows == 0)))
+        → flat_map page_text (parts_after PAGE_ROWS begun (row ∷ rows))
+        ≡ flat_map row_text begun ++ (rows_after count (row ∷ rows) ++ feed_if (not (count_after count (row ∷ rows) == 0)))
     by true test anew on =
         rw (is, test) (ap₂ (λ (first rest : List ℕ). (first ++ form_feed) ++ rest) (row_text_more begun row) anew
-        ∙ brackets (flat_map row_text begun) (row_text row) form_feed (rows_behind 0 rows) (feed_if (not (count_behind 0 rows == 0))))
+        ∙ brackets (flat_map row_text begun) (row_text row) form_feed (rows_after 0 rows) (feed_if (not (count_after 0 rows == 0))))
     by false test anew on =
-        rw (is, test) (on ∙ ap (λ (first : List ℕ). first ++ (rows_behind (count + 1) rows ++ feed_if (not (count_behind (count + 1) rows == 0)))) (row_text_more begun row)
-        ∙ brackets_without (flat_map row_text begun) (row_text row) (rows_behind (count + 1) rows) (feed_if (not (count_behind (count + 1) rows == 0))))
+        rw (is, test) (on ∙ ap (λ (first : List ℕ). first ++ (rows_after (count + 1) rows ++ feed_if (not (count_after (count + 1) rows == 0)))) (row_text_more begun row)
+        ∙ brackets_without (flat_map row_text begun) (row_text row) (rows_after (count + 1) rows) (feed_if (not (count_after (count + 1) rows == 0))))
 
 -- the pages of a file
 body_is : (width : ℕ) (bytes : List ℕ)
     → body_text width bytes
-    ≡ rows_behind 0 (rows_of width bytes) ++ feed_if (not (count_behind 0 (rows_of width bytes) == 0))
+    ≡ rows_after 0 (rows_of width bytes) ++ feed_if (not (count_after 0 (rows_of width bytes) == 0))
 unfolding body_text parts
 body_is width bytes = all_text [] (rows_of width bytes) 0 refl
 
--- they are written where the rows are, and then the end of the last page
+-- [page] they are written where the rows are, and then the end of the last page
 pub body_written : {T : Type 0} (s : Ghosts T) (a b c : Writer T) (width : ℕ) (bytes feed : List ℕ) (count : ℕ)
-    → Writes s b c feed → Writes s a b (rows_behind 0 (rows_of width bytes))
-    → feed ≡ feed_if (not (count == 0)) → count ≡ count_behind 0 (rows_of width bytes)
+    → Writes s b c feed → Writes s a b (rows_after 0 (rows_of width bytes))
+    → feed ≡ feed_if (not (count == 0)) → count ≡ count_after 0 (rows_of width bytes)
     → Writes s a c (body_text width bytes)
 body_written s a b c width bytes feed count late early ends counts =
     subst (λ (text : List ℕ). Writes s a c text)
-    (ap (λ (it : List ℕ). rows_behind 0 (rows_of width bytes) ++ it)
+    (ap (λ (it : List ℕ). rows_after 0 (rows_of width bytes) ++ it)
     (ends ∙ ap (λ (n : ℕ). feed_if (not (n == 0))) counts) ∙ sym (body_is width bytes))
-    (writes_both s a b c (rows_behind 0 (rows_of width bytes)) feed late early)
+    (writes_both s a b c (rows_after 0 (rows_of width bytes)) feed late early)

@@ -1,3 +1,3 @@
-pub mod Parts
 pub mod Pages
+pub mod Parts
 pub mod Walk

@@ -2,7 +2,7 @@
 use Rattle.std.specs.Prelude.{ℕ, List, [], ◌∷◌, ◌++◌, map}
 use Rattle.std.specs.List.{flat_map}
 use Rattle.cm_text.specs.Lines.{lines}
-use Rattle.cm_text.specs.Shown.{end_of_line, printing_byte}
+use Rattle.cm_text.specs.ScreenBytes.{end_of_line, printing_byte}
 use Rattle.ex_pages.specs.Parts.{parts}
 use Rattle.ex_pages.specs.declared.body.TheConstants.{PAGE_ROWS}
 
@@ -34,6 +34,6 @@ row_text row = row ++ end_of_line
 unfoldable pub page_text : List (List ℕ) → List ℕ
 page_text rows = flat_map row_text rows ++ form_feed
 
--- the pages of a file: 60 of its rows on each, and the last may have fewer; without rows there is none
+-- [page] the pages of a file: 60 of its rows on each, and the last may have fewer; without rows there is none
 unfoldable pub body_text : ℕ → List ℕ → List ℕ
 body_text width bytes = flat_map page_text (parts PAGE_ROWS (rows_of width bytes))

@@ -2,7 +2,7 @@
 ghost use Rattle.std.specs.Prelude.{◌≡◌, ◌<◌, ◌≤◌, ◌+◌, ◌==◌, if◌then◌else◌};
 ghost use Rattle.cm_io.specs.Writer.{Writes};
 ghost use Rattle.ex_pages.specs.Pages.{body_text, line_rows, rows_of};
-ghost use Rattle.ex_pages.specs.Walk.{count_behind, feed_if, next_row, rows_behind};
+ghost use Rattle.ex_pages.specs.Walk.{count_after, feed_if, next_row, rows_after};
 ghost use Rattle.ex_pages.specs.declared.row.TheConstants.{WIDEST_ROW};
 
 use crate::row::{WIDEST_ROW, form_feed, put_row};
@@ -12,7 +12,7 @@ use cm_text::first_line;
 /// The most rows of a page.
 pub const PAGE_ROWS: u32 = 60;
 
-// How many rows the page has behind one more: none, where that fills it.
+// How many rows the page has after one more: none, where that fills it.
 fn next_row(count: u32) -> u32
     requires { count < PAGE_ROWS }
     ensures next { result ≡ next_row count }
@@ -28,14 +28,14 @@ fn feed_if(ends: bool) -> &'static [u8]
     if ends { form_feed() } else { b"" }
 }
 
-// Puts the rows of a line behind so many of a page, and tells how many the page has then.
+// Puts the rows of a line after so many of a page, and tells how many the page has then.
 #[tactic(auto, using(cm_io::proofs::Texts::turns))]
 fn put_pieces<S: Sink>(line: &[u8], width: usize, before: u32, out: &mut Writer<'_, S>) -> u32
     requires some { 0 < width }
     requires fits { width ≤ WIDEST_ROW }
     requires few { before < PAGE_ROWS }
-    ensures rows { Writes S.Sink out.old out.new (rows_behind before (line_rows width line.now)) }
-    ensures count { result ≡ count_behind before (line_rows width line.now) }
+    ensures rows { Writes S.Sink out.old out.new (rows_after before (line_rows width line.now)) }
+    ensures count { result ≡ count_after before (line_rows width line.now) }
     ensures less { result < PAGE_ROWS }
 {
     let mut rest = line;
@@ -55,8 +55,8 @@ fn put_pieces<S: Sink>(line: &[u8], width: usize, before: u32, out: &mut Writer<
 fn put_lines<S: Sink>(bytes: &[u8], width: usize, out: &mut Writer<'_, S>) -> u32
     requires some { 0 < width }
     requires fits { width ≤ WIDEST_ROW }
-    ensures rows { Writes S.Sink out.old out.new (rows_behind 0 (rows_of width bytes.now)) }
-    ensures count { result ≡ count_behind 0 (rows_of width bytes.now) }
+    ensures rows { Writes S.Sink out.old out.new (rows_after 0 (rows_of width bytes.now)) }
+    ensures count { result ≡ count_after 0 (rows_of width bytes.now) }
 {
     let mut rest = bytes;
     let mut count = 0;
@@ -73,6 +73,7 @@ fn put_lines<S: Sink>(bytes: &[u8], width: usize, out: &mut Writer<'_, S>) -> u3
 pub fn put_body<S: Sink>(bytes: &[u8], width: usize, out: &mut Writer<'_, S>)
     requires some { 0 < width }
     requires fits { width ≤ WIDEST_ROW }
+    // [page]
     ensures { Writes S.Sink out.old out.new (body_text width bytes.now) }
 {
     let count = put_lines(bytes, width, out);

@@ -21,7 +21,7 @@ pub fn form_feed() -> &'static [u8]
     b"\x0c"
 }
 
-// The bytes of a row as they are printed, and blanks behind them.
+// The bytes of a row as they are printed, and blanks after them.
 fn printed(text: &[u8]) -> [u8; ROW_ROOM]
     requires { length text.now ≤ WIDEST_ROW }
     ensures { take (length text.now) result ≡ printed text.now }
@@ -33,7 +33,7 @@ fn printed(text: &[u8]) -> [u8; ROW_ROOM]
     row
 }
 
-// The same, and behind them the end of the row and of its page.
+// The same, and after them the end of the row and of its page.
 fn ended_row(text: &[u8]) -> [u8; ROW_ROOM]
     requires { length text.now ≤ WIDEST_ROW }
     ensures row { take (length text.now + 2) result ≡ row_text (printed text.now) }

@@ -16,9 +16,9 @@ use Rattle.cm_run.specs.Event.{event_key, keys_of}
 use Rattle.cm_run.specs.Trace.{RunState, is_ended, key_trace, keys_trace, run_trace, starting, step, unless}
 use Rattle.cm_run.proofs.Prefixes.{keys_of_key}
 use Rattle.ex_store.specs.State.{first_state}
-use Rattle.ex_take.specs.Exec.{exec_meaning}
+use Rattle.ex_take.specs.Exec.{exec_semantics}
 use Rattle.ex_take.specs.ExecState.{ExecState, exec_start}
-use Rattle.ex_program.specs.GeneratedKeys.{copy_end, copy_keys, copy_middle, copy_start, delete_start, expunge_keys, file_of, generated_keys, keys_behind, keys_by, kind_of, line_keys, list_end, list_start, name_end, next_number, tell_keys, undelete_start}
+use Rattle.ex_program.specs.GeneratedKeys.{copy_end, copy_keys, copy_middle, copy_start, delete_start, expunge_keys, file_of, generated_keys, keys_after, keys_by, kind_of, line_keys, list_end, list_start, name_end, next_number, tell_keys, undelete_start}
 use Rattle.ex_program.specs.Summary.{generated_trace, summary_of}
 use Rattle.ex_program.specs.declared.progress.TheConstants.{GENERATED_LINES}
 use Rattle.ex_program.proofs.KnownRuns.{ended_where}
@@ -106,35 +106,35 @@ line_goes position number few =
     (cond_each P (kind_of number == 3) _ _ (named undelete_start name_end (file_of number) small refl refl)
     (cond_each P (kind_of number == 4) _ _ refl refl))))
 
-lines_go : (lines position number : ℕ) → position + lines < 2 ^ 64 → goes Fresh (keys_behind position number lines) ≡ Some Fresh
-unfolding keys_behind
+lines_go : (lines position number : ℕ) → position + lines < 2 ^ 64 → goes Fresh (keys_after position number lines) ≡ Some Fresh
+unfolding keys_after
 lines_go zero position number few = refl
 lines_go (suc lines) position number few =
-    goes_both (line_keys (position + 1) (next_number number)) (keys_behind (position + 1) (next_number number) lines) Fresh Fresh Fresh
+    goes_both (line_keys (position + 1) (next_number number)) (keys_after (position + 1) (next_number number) lines) Fresh Fresh Fresh
     (line_goes (position + 1) (next_number number) (omega (arith, few))) (lines_go lines (position + 1) (next_number number) (omega (arith, few)))
 
 -- such keys are taken
-taken : (keys : List ℕ) (w v : Where) (at : RunState ExecState) → goes w keys ≡ Some v → Holds w at → keys_of (keys_trace exec_meaning false at keys) ≡ keys
+taken : (keys : List ℕ) (w v : Where) (at : RunState ExecState) → goes w keys ≡ Some v → Holds w at → keys_of (keys_trace exec_semantics false at keys) ≡ keys
 taken [] w v at is holds = refl
 taken (key ∷ keys) w v at is holds =
-    by (go w key) refl is (λ u later on. taken keys u v (step exec_meaning at key) later on) where
+    by (go w key) refl is (λ u later on. taken keys u v (step exec_semantics at key) later on) where
       by : (to : Option Where) → go w key ≡ to → option_and_then (λ (u : Where). goes u keys) to ≡ Some v
-          → ((u : Where) → goes u keys ≡ Some v → Holds u (step exec_meaning at key)
-          → keys_of (keys_trace exec_meaning false (step exec_meaning at key) keys) ≡ keys)
-          → keys_of (keys_trace exec_meaning false at (key ∷ keys)) ≡ key ∷ keys
+          → ((u : Where) → goes u keys ≡ Some v → Holds u (step exec_semantics at key)
+          → keys_of (keys_trace exec_semantics false (step exec_semantics at key) keys) ≡ keys)
+          → keys_of (keys_trace exec_semantics false at (key ∷ keys)) ≡ key ∷ keys
       by None leads is again = absurd (cc)
       by (Some u) leads is again =
-          let next = step exec_meaning at key in
+          let next = step exec_semantics at key in
           let on = step_holds w u at key leads holds in
-          let going : is_ended (exec_meaning.mode_of next.state) ≡ false = ended_where next.state ∙ on.on in
-          let first = key_trace exec_meaning false at key in
-          let more = keys_trace exec_meaning false next keys in
+          let going : is_ended (exec_semantics.mode_of next.state) ≡ false = ended_where next.state ∙ on.on in
+          let first = key_trace exec_semantics false at key in
+          let more = keys_trace exec_semantics false next keys in
           ap (λ (test : Bool). key ∷ keys_of (first ++ unless test more)) going
           ∙ ap (λ (it : List ℕ). key ∷ it) (flat_map-append event_key first more)
-          ∙ ap (λ (it : List ℕ). key ∷ (it ++ keys_of more)) (keys_of_key exec_meaning false at key)
+          ∙ ap (λ (it : List ℕ). key ∷ (it ++ keys_of more)) (keys_of_key exec_semantics false at key)
           ∙ ap (λ (it : List ℕ). key ∷ it) (again u is on)
 
-begun : Holds Fresh (starting exec_meaning (exec_start first_state) [])
+begun : Holds Fresh (starting exec_semantics (exec_start first_state) [])
 begun = record {
   quiet = record { files = refl; taken = refl; waits = tt };
   on = refl;
@@ -145,7 +145,7 @@ begun = record {
 pub all_taken : (lines : ℕ) → lines ≤ GENERATED_LINES → keys_of (generated_trace lines) ≡ generated_keys lines
 unfolding run_trace
 all_taken lines few =
-    taken (generated_keys lines) Fresh Fresh (starting exec_meaning (exec_start first_state) []) (lines_go lines 0 lines (omega (arith, few))) begun
+    taken (generated_keys lines) Fresh Fresh (starting exec_semantics (exec_start first_state) []) (lines_go lines 0 lines (omega (arith, few))) begun
 
 pub all_counted : (lines : ℕ) → lines ≤ GENERATED_LINES → (summary_of lines).keys ≡ length (generated_keys lines)
 all_counted lines few = ap length (all_taken lines few)

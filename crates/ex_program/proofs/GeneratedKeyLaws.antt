@@ -7,7 +7,7 @@ use Rattle.cm_state.specs.Roles.{field_of}
 use Rattle.ex_commands.specs.Line.{keyword_code}
 use Rattle.cm_blocks.specs.FieldView.{FieldView}
 use Rattle.cm_state.specs.SessionState.{SessionState}
-use Rattle.cm_run.specs.Meaning.{Deed}
+use Rattle.cm_run.specs.Semantics.{Effect}
 use Rattle.cm_run.specs.Obey.{left_by}
 use Rattle.cm_run.proofs.Acts.{left_append}
 use Rattle.ex_commands.specs.Act.{act_of}
@@ -17,9 +17,9 @@ use Rattle.ex_commands.specs.declared.acted.Acted.TheVariants as answers
 use Rattle.ex_commands.specs.declared.command.Command.{Command}
 use Rattle.ex_commands.specs.declared.command.Command.TheVariants as commands
 use Rattle.ex_commands.proofs.Outcomes.{ends_by_logout}
-use Rattle.ex_take.specs.Exec.{acts, command_deeds, followed, follows, lifted, line_by as deeds_by, refuses, typing_deeds, unwaiting}
+use Rattle.ex_take.specs.Exec.{acts, command_effects, followed, follows, lifted, line_by as effects_by, refuses, typing_effects, unwaiting}
 use Rattle.ex_take.specs.ExecState.{ExecState}
-use Rattle.ex_take.specs.Interpreter.{becomes, completion_answer, deed_of, pending_with, subcommand_deeds}
+use Rattle.ex_take.specs.Interpreter.{becomes, completion_answer, effect_of, pending_with, subcommand_effects}
 use Rattle.ex_take.specs.InterpreterState.{InterpreterState}
 use Rattle.ex_take.specs.Quiet.{Waits}
 use Rattle.ex_take.specs.declared.pending.Pending.{Pending}
@@ -41,9 +41,9 @@ unfolding becomes
 becomes_on interpreter moment command answers.Logout on other = absurd (other refl)
 becomes_on interpreter moment command answer on other = on
 
-deed_on : (interpreter : InterpreterState) (moment : ℕ) (command : Command) → is_safe command ≡ true → interpreter.ended ≡ false
-    → (deed_of interpreter moment command).state.ended ≡ false
-deed_on interpreter moment command safe on =
+effect_on : (interpreter : InterpreterState) (moment : ℕ) (command : Command) → is_safe command ≡ true → interpreter.ended ≡ false
+    → (effect_of interpreter moment command).state.ended ≡ false
+effect_on interpreter moment command safe on =
     becomes_on interpreter moment command (act_of command moment interpreter.state).answer on (safe_answer command moment interpreter safe)
 
 -- what is left: no file is open, and the run goes on
@@ -56,35 +56,35 @@ follows_on : (at : ExecState) (answer : Acted) → at.files ≡ [] → at.interp
 unfolding follows
 follows_on at (answers.Refused code) none on = on
 follows_on at answers.Logout none on = on
-follows_on at answers.Ok none on = ap (λ (deeds : List (Deed ExecState)). (left_by at deeds).interpreter.ended) (nothing_settles at none) ∙ on
-follows_on at answers.Pending none on = ap (λ (deeds : List (Deed ExecState)). (left_by at deeds).interpreter.ended) (nothing_settles at none) ∙ on
-follows_on at answers.Data none on = ap (λ (deeds : List (Deed ExecState)). (left_by at deeds).interpreter.ended) (nothing_settles at none) ∙ on
-follows_on at answers.Take none on = ap (λ (deeds : List (Deed ExecState)). (left_by at deeds).interpreter.ended) (nothing_settles at none) ∙ on
-follows_on at answers.NoMemory none on = ap (λ (deeds : List (Deed ExecState)). (left_by at deeds).interpreter.ended) (nothing_settles at none) ∙ on
-follows_on at answers.Failed none on = ap (λ (deeds : List (Deed ExecState)). (left_by at deeds).interpreter.ended) (nothing_settles at none) ∙ on
+follows_on at answers.Ok none on = ap (λ (effects : List (Effect ExecState)). (left_by at effects).interpreter.ended) (nothing_settles at none) ∙ on
+follows_on at answers.Pending none on = ap (λ (effects : List (Effect ExecState)). (left_by at effects).interpreter.ended) (nothing_settles at none) ∙ on
+follows_on at answers.Data none on = ap (λ (effects : List (Effect ExecState)). (left_by at effects).interpreter.ended) (nothing_settles at none) ∙ on
+follows_on at answers.Take none on = ap (λ (effects : List (Effect ExecState)). (left_by at effects).interpreter.ended) (nothing_settles at none) ∙ on
+follows_on at answers.NoMemory none on = ap (λ (effects : List (Effect ExecState)). (left_by at effects).interpreter.ended) (nothing_settles at none) ∙ on
+follows_on at answers.Failed none on = ap (λ (effects : List (Effect ExecState)). (left_by at effects).interpreter.ended) (nothing_settles at none) ∙ on
 
-followed_on : (at : ExecState) (deeds : List (Deed InterpreterState)) (answer : Acted) → at.files ≡ []
-    → (left_by at.interpreter deeds).ended ≡ false → GoesOn (left_by at (followed at deeds answer))
-followed_on at deeds answer none on =
-    let left = record at { interpreter = left_by at.interpreter deeds } in
+followed_on : (at : ExecState) (effects : List (Effect InterpreterState)) (answer : Acted) → at.files ≡ []
+    → (left_by at.interpreter effects).ended ≡ false → GoesOn (left_by at (followed at effects answer))
+followed_on at effects answer none on =
+    let left = record at { interpreter = left_by at.interpreter effects } in
     record {
-      files = (followed_keep at deeds answer none).1;
-      on = ap (λ (it : ExecState). it.interpreter.ended) (left_append (map (lifted at) deeds) (follows left answer) at)
-          ∙ ap (λ (it : ExecState). (left_by it (follows left answer)).interpreter.ended) (left_lifted at deeds at.interpreter)
+      files = (followed_keep at effects answer none).1;
+      on = ap (λ (it : ExecState). it.interpreter.ended) (left_append (map (lifted at) effects) (follows left answer) at)
+          ∙ ap (λ (it : ExecState). (left_by it (follows left answer)).interpreter.ended) (left_lifted at effects at.interpreter)
           ∙ follows_on left answer none on;
     }
 
 acts_on : (at : ExecState) (moment : ℕ) (command : Command) → is_safe command ≡ true → GoesOn at → GoesOn (left_by at (acts at moment command))
 acts_on at moment command safe goes =
-    followed_on at (deed_of at.interpreter moment command ∷ []) (act_of command moment at.interpreter.state).answer goes.files
-    (deed_on at.interpreter moment command safe goes.on)
+    followed_on at (effect_of at.interpreter moment command ∷ []) (act_of command moment at.interpreter.state).answer goes.files
+    (effect_on at.interpreter moment command safe goes.on)
 
-commands_on : (at : ExecState) (moment : ℕ) (command : Command) → is_safe command ≡ true → GoesOn at → GoesOn (left_by at (command_deeds at moment command))
-unfolding command_deeds
+commands_on : (at : ExecState) (moment : ℕ) (command : Command) → is_safe command ≡ true → GoesOn at → GoesOn (left_by at (command_effects at moment command))
+unfolding command_effects
 commands_on at moment (commands.Take file) safe goes = absurd (cc)
 commands_on at moment (commands.CopyTty to) safe goes =
-    subst (λ (deeds : List (Deed ExecState)). GoesOn (left_by at deeds)) (sym typed) (acts_on at moment (commands.CopyTty to) safe goes) where
-      typed : typing_deeds at moment to ≡ acts at moment (commands.CopyTty to)
+    subst (λ (effects : List (Effect ExecState)). GoesOn (left_by at effects)) (sym typed) (acts_on at moment (commands.CopyTty to) safe goes) where
+      typed : typing_effects at moment to ≡ acts at moment (commands.CopyTty to)
       typed = ap (λ (files : List (List (List ℕ))). cond (length files == 0) (acts at moment (commands.CopyTty to)) (refuses NotInTake at ∷ [])) goes.files
 commands_on at moment command safe goes = acts_on at moment command safe goes
 
@@ -110,19 +110,19 @@ added_safe fields (commands.Directory files since before deleted read sub) is =
 added_safe fields command is = absurd (cc)
 
 completion_on : (interpreter : InterpreterState) (pending : Pending) → is_safe pending.command ≡ true → interpreter.ended ≡ false
-    → (left_by interpreter (subcommand_deeds interpreter pending)).ended ≡ false
+    → (left_by interpreter (subcommand_effects interpreter pending)).ended ≡ false
 completion_on interpreter pending safe on = by (is_pending pending.command) where
   by : (waits : Bool) → (left_by (record interpreter { pending = Some pending })
-      (cond waits [] (deed_of (record interpreter { pending = None }) pending.moment pending.command ∷ []))).ended ≡ false
+      (cond waits [] (effect_of (record interpreter { pending = None }) pending.moment pending.command ∷ []))).ended ≡ false
   by true = on
-  by false = deed_on (record interpreter { pending = None }) pending.moment pending.command safe on
+  by false = effect_on (record interpreter { pending = None }) pending.moment pending.command safe on
 
 -- a line of a safe command
 pub line_on : (at : ExecState) (session : SessionState) (moment : ℕ) (waits : Option Pending) → Waits waits
-    → (waits ≡ None → is_safe (command_by at.interpreter session None) ≡ true) → GoesOn at → GoesOn (left_by at (deeds_by at session moment waits))
+    → (waits ≡ None → is_safe (command_by at.interpreter session None) ≡ true) → GoesOn at → GoesOn (left_by at (effects_by at session moment waits))
 line_on at session moment None wait safe goes = commands_on at moment _ (safe refl) goes
 line_on at session moment (Some pending) wait safe goes =
     let whole = pending_with session pending in
     let on = unwaiting at in
-    followed_on on (subcommand_deeds on.interpreter whole) (completion_answer on.interpreter whole) goes.files
+    followed_on on (subcommand_effects on.interpreter whole) (completion_answer on.interpreter whole) goes.files
     (completion_on on.interpreter whole (added_safe session.fields pending.command wait) goes.on)

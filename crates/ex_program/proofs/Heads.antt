@@ -46,8 +46,8 @@ module _ (good : ℕ → Bool) (table : List Entry) (front run : List ℕ)
       → (is_short e.1.flag ≡ false) × (good (code_at table e.0) ≡ true)
   begun e passed begins =
       let none : not (begins_with e.1.text front) ≡ false = ap not (begins_front e.1.text front run begins) in
-      let behind = second_of_or (not (begins_with e.1.text front)) (not (is_short e.1.flag) && good (code_at table e.0)) none passed in
-      let both = and_parts (not (is_short e.1.flag)) (good (code_at table e.0)) behind in
+      let after = second_of_or (not (begins_with e.1.text front)) (not (is_short e.1.flag) && good (code_at table e.0)) none passed in
+      let both = and_parts (not (is_short e.1.flag)) (good (code_at table e.0)) after in
       (not-true (is_short e.1.flag) both.0, both.1)
 
   exactly : (place : ℕ) (flag : Flag) (at : ℕ) → is_short flag ≡ false → good (code_at table at) ≡ true → found_at (exact at flag) ≡ Some place

@@ -13,34 +13,34 @@ use Rattle.cm_blocks.proofs.Parses.{parse_of_parses}
 use Rattle.cm_state.specs.Edit.{completed, edit, edited_as}
 use Rattle.cm_text.specs.Text.{finished}
 use Rattle.cm_blocks.specs.Parse.{IsParse}
-use Rattle.cm_state.specs.SessionState.{SessionState, met_line}
+use Rattle.cm_state.specs.SessionState.{SessionState, line_before}
 use Rattle.cm_state.specs.Turn.{end_turn, turn_of}
 use Rattle.cm_state.specs.declared.turn.Turn.{Turn}
 use Rattle.cm_state.specs.declared.turn.Turn.TheVariants as turn
 use Rattle.cm_run.specs.declared.engine.TheConstants.{FILE_LINES}
 use Rattle.cm_run.specs.declared.mode.Mode.{Mode}
 use Rattle.cm_run.specs.declared.mode.Mode.TheVariants as mode
-use Rattle.cm_run.specs.Event.{state_behind}
+use Rattle.cm_run.specs.Event.{state_after}
 use Rattle.cm_run.specs.Idle.{turn_at}
 use Rattle.cm_run.specs.Keeping.{is_line}
-use Rattle.cm_run.specs.Meaning.{Deed, setting_of}
+use Rattle.cm_run.specs.Semantics.{Effect, setting_of}
 use Rattle.cm_run.specs.Obey.{left_by}
-use Rattle.cm_run.specs.Trace.{RunState, Stroke, line_start, line_stroke, next_session, node_of, raw_stroke, step, step_by, step_of, turn_outcome}
+use Rattle.cm_run.specs.Trace.{Keystroke, RunState, line_keystroke, line_start, next_session, node_of, raw_keystroke, step, step_by, step_of, turn_outcome}
 use Rattle.cm_run.proofs.LineTurns.{confirmed_leads, edit_leads, moment_of, raw_leads, refusal_leads, session_at}
 use Rattle.cm_run.proofs.Acts.{left_append}
-use Rattle.cm_run.proofs.Screens.{state-deeds}
+use Rattle.cm_run.proofs.Screens.{state-effects}
 use Rattle.ex_commands.specs.declared.acted.Acted.{Acted}
 use Rattle.ex_commands.specs.declared.acted.Acted.TheVariants as answers
 use Rattle.ex_take.proofs.Sequels.{left_lifted}
 use Rattle.ex_grammar.specs.declared.node.TheConstants.{COMMANDS}
 use Rattle.ex_store.specs.State.{catalogue_of}
-use Rattle.ex_commands.specs.Typed.{bytes_behind, echo_of, is_typed, rubbing}
-use Rattle.ex_commands.specs.Typed as typed
+use Rattle.ex_commands.specs.FileTyping.{bytes_after, echo_of, is_typed, rubbing}
+use Rattle.ex_commands.specs.FileTyping as typed
 use Rattle.ex_commands.specs.declared.data.DataTurn.{DataTurn}
 use Rattle.ex_commands.specs.declared.data.DataTurn.TheVariants as turns
-use Rattle.ex_take.specs.Exec.{counts, exec_meaning, lifted, line_deeds, raw_deeds}
+use Rattle.ex_take.specs.Exec.{counts, exec_semantics, lifted, line_effects, raw_effects}
 use Rattle.ex_take.specs.ExecState.{ExecState}
-use Rattle.ex_take.specs.Interpreter.{command_at, mode_by, mode_of, raw_answer, raw_by, typed_deeds}
+use Rattle.ex_take.specs.Interpreter.{command_at, mode_by, mode_of, raw_answer, raw_by, typed_effects}
 use Rattle.ex_take.specs.InterpreterState.{InterpreterState}
 use Rattle.ex_take.specs.Quiet.{IsQuiet}
 use Rattle.ex_take.specs.declared.pending.Pending.{Pending}
@@ -58,10 +58,10 @@ pub record Holds (w : Where) (at : RunState ExecState) : Type 0 where
   pub quiet : IsQuiet at.state
   pub on : at.state.interpreter.ended ≡ false
   pub node : is_line (mode_of at.state.interpreter) ≡ true → at.session.node ≡ node_of (mode_of at.state.interpreter)
-  pub line : is_line (mode_of at.state.interpreter) ≡ true → Is w (met_line at.session)
+  pub line : is_line (mode_of at.state.interpreter) ≡ true → Is w (line_before at.session)
 
 -- a line that begins
-begins_empty : (it : Mode) (session : SessionState) → is_line it ≡ true → met_line (line_start it session) ≡ []
+begins_empty : (it : Mode) (session : SessionState) → is_line it ≡ true → line_before (line_start it session) ≡ []
 begins_empty (mode.Line node prompt takes) session line = refl
 begins_empty mode.Raw session line = absurd (cc)
 begins_empty mode.Ended session line = absurd (cc)
@@ -73,10 +73,10 @@ begins_node mode.Ended session line = absurd (cc)
 
 module _ (at : RunState ExecState) (key : ℕ) where
   abbrev next : RunState ExecState
-  next = step exec_meaning at key
+  next = step exec_semantics at key
 
   -- the run goes on at a line that begins
-  begins : (left : ExecState) → next.state ≡ left → next.session ≡ line_start (mode_of next.state.interpreter) (session_at exec_meaning at key)
+  begins : (left : ExecState) → next.state ≡ left → next.session ≡ line_start (mode_of next.state.interpreter) (session_at exec_semantics at key)
       → left.interpreter.ended ≡ false → IsQuiet at.state → Holds Fresh next
   begins left leads session on quiet =
       let going : next.state.interpreter.ended ≡ false = ap (λ (it : ExecState). it.interpreter.ended) leads ∙ on in
@@ -84,41 +84,41 @@ module _ (at : RunState ExecState) (key : ℕ) where
         quiet = step_quiet at key quiet going;
         on = going;
         node = λ line. ap (λ (it : SessionState). it.node) session ∙ begins_node (mode_of next.state.interpreter) _ line;
-        line = λ line. inl (ap (λ (it : SessionState). met_line it) session ∙ begins_empty (mode_of next.state.interpreter) _ line);
+        line = λ line. inl (ap (λ (it : SessionState). line_before it) session ∙ begins_empty (mode_of next.state.interpreter) _ line);
       }
 
   -- where a turn leaves the session
-  session_of : (to : Turn) → is_line (mode_of at.state.interpreter) ≡ true → turn_at exec_meaning at key ≡ to
-      → next.session ≡ (step_of exec_meaning (session_at exec_meaning at key) at.state at.moments
-      (turn_outcome exec_meaning at.state (session_at exec_meaning at key) (moment_of exec_meaning at) to)).session
-  unfolding step_of line_stroke
+  session_of : (to : Turn) → is_line (mode_of at.state.interpreter) ≡ true → turn_at exec_semantics at key ≡ to
+      → next.session ≡ (step_of exec_semantics (session_at exec_semantics at key) at.state at.moments
+      (turn_outcome exec_semantics at.state (session_at exec_semantics at key) (moment_of exec_semantics at) to)).session
+  unfolding step_of line_keystroke
   session_of to line is =
-      ap (λ (s : Stroke ExecState). (step_by exec_meaning at s).session) (of_line at key (mode_of at.state.interpreter) line)
-      ∙ ap (λ (it : Turn). (step_of exec_meaning (session_at exec_meaning at key) at.state at.moments
-      (turn_outcome exec_meaning at.state (session_at exec_meaning at key) (moment_of exec_meaning at) it)).session) is
+      ap (λ (s : Keystroke ExecState). (step_by exec_semantics at s).session) (of_line at key (mode_of at.state.interpreter) line)
+      ∙ ap (λ (it : Turn). (step_of exec_semantics (session_at exec_semantics at key) at.state at.moments
+      (turn_outcome exec_semantics at.state (session_at exec_semantics at key) (moment_of exec_semantics at) it)).session) is
 
-  refused_session : (to : Turn) → (turn_outcome exec_meaning at.state (session_at exec_meaning at key) (moment_of exec_meaning at) to).begins ≡ true
-      → is_line (mode_of at.state.interpreter) ≡ true → turn_at exec_meaning at key ≡ to
-      → next.session ≡ line_start (mode_of next.state.interpreter) (session_at exec_meaning at key)
-  unfolding step_of line_stroke
+  refused_session : (to : Turn) → (turn_outcome exec_semantics at.state (session_at exec_semantics at key) (moment_of exec_semantics at) to).begins ≡ true
+      → is_line (mode_of at.state.interpreter) ≡ true → turn_at exec_semantics at key ≡ to
+      → next.session ≡ line_start (mode_of next.state.interpreter) (session_at exec_semantics at key)
+  unfolding step_of line_keystroke
   refused_session to starts line is =
-      let outcome = turn_outcome exec_meaning at.state (session_at exec_meaning at key) (moment_of exec_meaning at) to in
-      let state : next.state ≡ state_behind at.state outcome.events
-      = ap (λ (s : Stroke ExecState). (step_by exec_meaning at s).state) (of_line at key (mode_of at.state.interpreter) line)
-      ∙ ap (λ (it : Turn). state_behind at.state (turn_outcome exec_meaning at.state (session_at exec_meaning at key) (moment_of exec_meaning at) it).events) is in
+      let outcome = turn_outcome exec_semantics at.state (session_at exec_semantics at key) (moment_of exec_semantics at) to in
+      let state : next.state ≡ state_after at.state outcome.events
+      = ap (λ (s : Keystroke ExecState). (step_by exec_semantics at s).state) (of_line at key (mode_of at.state.interpreter) line)
+      ∙ ap (λ (it : Turn). state_after at.state (turn_outcome exec_semantics at.state (session_at exec_semantics at key) (moment_of exec_semantics at) it).events) is in
       session_of to line is
-      ∙ ap (λ (test : Bool). next_session test (mode_of (state_behind at.state outcome.events).interpreter) (session_at exec_meaning at key)) starts
-      ∙ ap (λ (it : ExecState). line_start (mode_of it.interpreter) (session_at exec_meaning at key)) (sym state)
+      ∙ ap (λ (test : Bool). next_session test (mode_of (state_after at.state outcome.events).interpreter) (session_at exec_semantics at key)) starts
+      ∙ ap (λ (it : ExecState). line_start (mode_of it.interpreter) (session_at exec_semantics at key)) (sym state)
 
 -- what a key makes of the session
-edited_line : (at : RunState ExecState) (key : ℕ) (class : KeyClass) → class_at (met_line at.session) key ≡ class → is_edit class ≡ true
-    → met_line (session_at exec_meaning at key)
-    ≡ edit class key (met_line at.session) at.session.restorable (completed (setting_of exec_meaning at.state) at.session Escape).bytes
+edited_line : (at : RunState ExecState) (key : ℕ) (class : KeyClass) → class_at (line_before at.session) key ≡ class → is_edit class ≡ true
+    → line_before (session_at exec_semantics at key)
+    ≡ edit class key (line_before at.session) at.session.recall (completed (setting_of exec_semantics at.state) at.session Escape).bytes
 unfolding edited_as
 edited_line at key class is edits =
-    ap (λ (it : KeyClass). met_line (edited_as (setting_of exec_meaning at.state) at.session it key)) is ∙ by class edits where
-      by : (class : KeyClass) → is_edit class ≡ true → met_line (edited_as (setting_of exec_meaning at.state) at.session class key)
-          ≡ edit class key (met_line at.session) at.session.restorable (completed (setting_of exec_meaning at.state) at.session Escape).bytes
+    ap (λ (it : KeyClass). line_before (edited_as (setting_of exec_semantics at.state) at.session it key)) is ∙ by class edits where
+      by : (class : KeyClass) → is_edit class ≡ true → line_before (edited_as (setting_of exec_semantics at.state) at.session class key)
+          ≡ edit class key (line_before at.session) at.session.recall (completed (setting_of exec_semantics at.state) at.session Escape).bytes
       by Text edits = refl
       by Rub edits = refl
       by Word edits = refl
@@ -127,11 +127,11 @@ edited_line at key class is edits =
       by Join edits = refl
       by class edits = absurd (cc)
 
-finished_line : (at : RunState ExecState) (key : ℕ) → class_at (met_line at.session) key ≡ End → met_line (session_at exec_meaning at key) ≡ []
+finished_line : (at : RunState ExecState) (key : ℕ) → class_at (line_before at.session) key ≡ End → line_before (session_at exec_semantics at key) ≡ []
 unfolding edited_as
-finished_line at key is = ap (λ (it : KeyClass). met_line (edited_as (setting_of exec_meaning at.state) at.session it key)) is
+finished_line at key is = ap (λ (it : KeyClass). line_before (edited_as (setting_of exec_semantics at.state) at.session it key)) is
 
-same_node : (at : RunState ExecState) (key : ℕ) → (session_at exec_meaning at key).node ≡ at.session.node
+same_node : (at : RunState ExecState) (key : ℕ) → (session_at exec_semantics at key).node ≡ at.session.node
 unfolding edited_as
 same_node at key = refl
 
@@ -145,19 +145,19 @@ edit_turn Join ending edits = refl
 edit_turn class ending edits = absurd (cc)
 
 -- a line that goes on
-stays : (v : Where) (at : RunState ExecState) (key : ℕ) → is_line (mode_of at.state.interpreter) ≡ true → turn_at exec_meaning at key ≡ turn.Edited
-    → Is v (met_line (session_at exec_meaning at key)) → (w : Where) → Holds w at → Holds v (step exec_meaning at key)
+stays : (v : Where) (at : RunState ExecState) (key : ℕ) → is_line (mode_of at.state.interpreter) ≡ true → turn_at exec_semantics at key ≡ turn.Edited
+    → Is v (line_before (session_at exec_semantics at key)) → (w : Where) → Holds w at → Holds v (step exec_semantics at key)
 unfolding step_of turn_outcome
 stays v at key line is there w holds =
-    let state : (step exec_meaning at key).state ≡ at.state = edit_leads exec_meaning at key line is in
-    let session : (step exec_meaning at key).session ≡ session_at exec_meaning at key = session_of at key turn.Edited line is in
-    let going : (step exec_meaning at key).state.interpreter.ended ≡ false = ap (λ (it : ExecState). it.interpreter.ended) state ∙ holds.on in
+    let state : (step exec_semantics at key).state ≡ at.state = edit_leads exec_semantics at key line is in
+    let session : (step exec_semantics at key).session ≡ session_at exec_semantics at key = session_of at key turn.Edited line is in
+    let going : (step exec_semantics at key).state.interpreter.ended ≡ false = ap (λ (it : ExecState). it.interpreter.ended) state ∙ holds.on in
     record {
       quiet = step_quiet at key holds.quiet going;
       on = going;
       node = λ _. ap (λ (it : SessionState). it.node) session ∙ same_node at key ∙ holds.node line
           ∙ ap (λ (it : ExecState). node_of (mode_of it.interpreter)) (sym state);
-      line = λ _. subst (λ (it : SessionState). Is v (met_line it)) (sym session) there;
+      line = λ _. subst (λ (it : SessionState). Is v (line_before it)) (sym session) there;
     }
 
 -- the letters that a line begins with
@@ -179,66 +179,66 @@ main_node false None None line none = refl
 main_node false None (Some pending) line none = absurd (cc)
 
 -- what a confirmed line commands
-safe_line : (at : RunState ExecState) (key : ℕ) → class_at (met_line at.session) key ≡ End → Is Lined (met_line at.session)
-    → at.session.node ≡ COMMANDS → is_safe (command_at at.state.interpreter (session_at exec_meaning at key)) ≡ true
+safe_line : (at : RunState ExecState) (key : ℕ) → class_at (line_before at.session) key ≡ End → Is Lined (line_before at.session)
+    → at.session.node ≡ COMMANDS → is_safe (command_at at.state.interpreter (session_at exec_semantics at key)) ≡ true
 unfolding edited_as
 safe_line at key is begins node =
-    let s = setting_of exec_meaning at.state in
+    let s = setting_of exec_semantics at.state in
     let held = at.session in
-    let front = fronted (met_line held) begins in
-    let text : finished (met_line held) ≡ letters front.0 ++ (front.1 ++ 13 ∷ [])
+    let front = fronted (line_before held) begins in
+    let text : finished (line_before held) ≡ letters front.0 ++ (front.1 ++ 13 ∷ [])
     = ap (λ (it : List ℕ). finished it) front.2 ∙ append_assoc (letters front.0) front.1 (13 ∷ []) in
     let ended = edited_as s held End key in
     let parse : IsParse s COMMANDS (letters front.0 ++ (front.1 ++ 13 ∷ [])) ended.fields ended.ending
     = subst (λ (it : List ℕ). IsParse s COMMANDS it ended.fields ended.ending) text
-    (subst (λ (n : ℕ). IsParse s n (finished (met_line held)) ended.fields ended.ending) node
-    (parse_of_parses s held.node (finished (met_line held)))) in
+    (subst (λ (n : ℕ). IsParse s n (finished (line_before held)) ended.fields ended.ending) node
+    (parse_of_parses s held.node (finished (line_before held)))) in
     ap (λ (class : KeyClass). is_safe (command_at at.state.interpreter (edited_as s held class key))) is
     ∙ line_safe (catalogue_of at.state.interpreter.state) front.0 (front.1 ++ 13 ∷ []) _ ended.ending parse
 
 -- a line that is finished
-ends_line : (at : RunState ExecState) (key : ℕ) → is_line (mode_of at.state.interpreter) ≡ true → Ends (met_line at.session) key Fresh
-    → (w : Where) → Holds w at → Holds Fresh (step exec_meaning at key)
-unfolding turn_outcome line_deeds
-ends_line at key line ends w holds = by (session_at exec_meaning at key).ending refl where
-  turn_is : (ending : Ending) → (session_at exec_meaning at key).ending ≡ ending → turn_at exec_meaning at key ≡ end_turn ending
-  turn_is ending is = ap (λ (class : KeyClass). turn_of class (session_at exec_meaning at key).ending) ends.class_is ∙ ap (λ (it : Ending). end_turn it) is
+ends_line : (at : RunState ExecState) (key : ℕ) → is_line (mode_of at.state.interpreter) ≡ true → Ends (line_before at.session) key Fresh
+    → (w : Where) → Holds w at → Holds Fresh (step exec_semantics at key)
+unfolding turn_outcome line_effects
+ends_line at key line ends w holds = by (session_at exec_semantics at key).ending refl where
+  turn_is : (ending : Ending) → (session_at exec_semantics at key).ending ≡ ending → turn_at exec_semantics at key ≡ end_turn ending
+  turn_is ending is = ap (λ (class : KeyClass). turn_of class (session_at exec_semantics at key).ending) ends.class_is ∙ ap (λ (it : Ending). end_turn it) is
 
-  deeds : List (Deed ExecState)
-  deeds = line_deeds at.state (session_at exec_meaning at key) (moment_of exec_meaning at)
+  effects : List (Effect ExecState)
+  effects = line_effects at.state (session_at exec_semantics at key) (moment_of exec_semantics at)
 
-  goes : GoesOn (left_by at.state deeds)
+  goes : GoesOn (left_by at.state effects)
   goes =
-      line_on at.state (session_at exec_meaning at key) (moment_of exec_meaning at) at.state.interpreter.pending holds.quiet.waits
+      line_on at.state (session_at exec_semantics at key) (moment_of exec_semantics at) at.state.interpreter.pending holds.quiet.waits
       (λ none. safe_line at key ends.class_is ends.begins
       (holds.node line ∙ main_node at.state.interpreter.ended at.state.interpreter.typing at.state.interpreter.pending line none))
       (record { files = holds.quiet.files; on = holds.on })
 
-  by : (ending : Ending) → (session_at exec_meaning at key).ending ≡ ending → Holds Fresh (step exec_meaning at key)
+  by : (ending : Ending) → (session_at exec_semantics at key).ending ≡ ending → Holds Fresh (step exec_semantics at key)
   by (endings.Open place) is = stays Fresh at key line (turn_is _ is) (inl (finished_line at key ends.class_is)) w holds
   by (endings.Fault fault) is =
-      begins at key _ (refusal_leads exec_meaning at key fault line (turn_is _ is)) (refused_session at key (turn.Refused fault) refl line (turn_is _ is)) holds.on holds.quiet
+      begins at key _ (refusal_leads exec_semantics at key fault line (turn_is _ is)) (refused_session at key (turn.Refused fault) refl line (turn_is _ is)) holds.on holds.quiet
   by endings.Done is =
-      begins at key (left_by at.state deeds)
-      (confirmed_leads exec_meaning at key line (turn_is _ is)
-      ∙ ap (λ events. state_behind (left_by at.state deeds) events) (no_lines FILE_LINES (moment_of exec_meaning at) (left_by at.state deeds) goes.files))
+      begins at key (left_by at.state effects)
+      (confirmed_leads exec_semantics at key line (turn_is _ is)
+      ∙ ap (λ events. state_after (left_by at.state effects) events) (no_lines FILE_LINES (moment_of exec_semantics at) (left_by at.state effects) goes.files))
       (refused_session at key turn.Confirmed refl line (turn_is _ is)) goes.on holds.quiet
 
 -- a key of a line
 line_holds : (w v : Where) (at : RunState ExecState) (key : ℕ) → go w key ≡ Some v → is_line (mode_of at.state.interpreter) ≡ true → Holds w at
-    → Holds v (step exec_meaning at key)
+    → Holds v (step exec_semantics at key)
 line_holds w v at key is line holds =
-    by (after (completed (setting_of exec_meaning at.state) at.session Escape).bytes at.session.restorable w v (met_line at.session) key is (holds.line line)) where
-      by : Ends (met_line at.session) key v
-          ⊎ Edits (met_line at.session) (completed (setting_of exec_meaning at.state) at.session Escape).bytes at.session.restorable key v
-          → Holds v (step exec_meaning at key)
+    by (after (completed (setting_of exec_semantics at.state) at.session Escape).bytes at.session.recall w v (line_before at.session) key is (holds.line line)) where
+      by : Ends (line_before at.session) key v
+          ⊎ Edits (line_before at.session) (completed (setting_of exec_semantics at.state) at.session Escape).bytes at.session.recall key v
+          → Holds v (step exec_semantics at key)
       by (inl ends) =
-          subst (λ (v : Where). Holds v (step exec_meaning at key)) (sym ends.to_is)
-          (ends_line at key line (subst (λ (v : Where). Ends (met_line at.session) key v) ends.to_is ends) w holds)
+          subst (λ (v : Where). Holds v (step exec_semantics at key)) (sym ends.to_is)
+          (ends_line at key line (subst (λ (v : Where). Ends (line_before at.session) key v) ends.to_is ends) w holds)
       by (inr edits) =
           stays v at key line
-          (ap (λ (class : KeyClass). turn_of class (session_at exec_meaning at key).ending) edits.class_is
-          ∙ edit_turn edits.class (session_at exec_meaning at key).ending edits.edits)
+          (ap (λ (class : KeyClass). turn_of class (session_at exec_semantics at key).ending) edits.class_is
+          ∙ edit_turn edits.class (session_at exec_semantics at key).ending edits.edits)
           (subst (λ (line : List ℕ). Is v line) (sym (edited_line at key edits.class edits.class_is edits.edits)) edits.there) w holds
 
 -- a raw key: only control-Z and control-C end the typing
@@ -296,8 +296,8 @@ goes_3 Ell v is = cc
 goes_3 Lined v is = cc
 
 -- what a raw key leaves
-typed_on : (interpreter : InterpreterState) (it : Typing) (to : DataTurn) → (left_by interpreter (typed_deeds interpreter it to)).ended ≡ interpreter.ended
-unfolding typed_deeds
+typed_on : (interpreter : InterpreterState) (it : Typing) (to : DataTurn) → (left_by interpreter (typed_effects interpreter it to)).ended ≡ interpreter.ended
+unfolding typed_effects
 typed_on interpreter it turns.More = refl
 typed_on interpreter it turns.Write = refl
 typed_on interpreter it turns.Dropped = refl
@@ -305,29 +305,29 @@ typed_on interpreter it turns.Dropped = refl
 keys_on : (interpreter : InterpreterState) (key : ℕ) (typing : Option Typing) → (left_by interpreter (raw_by interpreter key typing)).ended ≡ interpreter.ended
 keys_on interpreter key None = refl
 keys_on interpreter key (Some it) =
-    typed_on interpreter (record it { typed = bytes_behind it.typed key }) (typed.turn_of (echo_of it.typed key))
+    typed_on interpreter (record it { typed = bytes_after it.typed key }) (typed.turn_of (echo_of it.typed key))
 
 counts_keep : (at : ExecState) (answer : Acted) → (left_by at (counts at answer)).interpreter ≡ at.interpreter
 counts_keep at (answers.Refused code) = refl
 counts_keep at answer = refl
 
-raw_interpreter : (at : ExecState) (key : ℕ) → (left_by at (raw_deeds at key)).interpreter
+raw_interpreter : (at : ExecState) (key : ℕ) → (left_by at (raw_effects at key)).interpreter
     ≡ left_by at.interpreter (raw_by at.interpreter key at.interpreter.typing)
 raw_interpreter at key =
-    let deeds = raw_by at.interpreter key at.interpreter.typing in
-    let left = record at { interpreter = left_by at.interpreter deeds } in
+    let effects = raw_by at.interpreter key at.interpreter.typing in
+    let left = record at { interpreter = left_by at.interpreter effects } in
     let answer = raw_answer at.interpreter key at.interpreter.typing in
-    ap (λ (it : ExecState). it.interpreter) (left_append (map (lifted at) deeds) (counts left answer) at)
-    ∙ ap (λ (it : ExecState). (left_by it (counts left answer)).interpreter) (left_lifted at deeds at.interpreter)
+    ap (λ (it : ExecState). it.interpreter) (left_append (map (lifted at) effects) (counts left answer) at)
+    ∙ ap (λ (it : ExecState). (left_by it (counts left answer)).interpreter) (left_lifted at effects at.interpreter)
     ∙ counts_keep left answer
 
 -- the typing goes on, but at control-Z and control-C
 still_raw : (interpreter : InterpreterState) (it : Typing) (to : DataTurn) → to ≡ turns.More
-    → is_line (mode_of (left_by interpreter (typed_deeds interpreter it to))) ≡ true → interpreter.ended ≡ false → ⊥
-unfolding typed_deeds
+    → is_line (mode_of (left_by interpreter (typed_effects interpreter it to))) ≡ true → interpreter.ended ≡ false → ⊥
+unfolding typed_effects
 still_raw interpreter it to is line on =
-    let raw : is_line (mode_of (left_by interpreter (typed_deeds interpreter it to))) ≡ is_line (mode_by interpreter.ended (Some it) interpreter.pending)
-    = ap (λ (to : DataTurn). is_line (mode_of (left_by interpreter (typed_deeds interpreter it to)))) is in
+    let raw : is_line (mode_of (left_by interpreter (typed_effects interpreter it to))) ≡ is_line (mode_by interpreter.ended (Some it) interpreter.pending)
+    = ap (λ (to : DataTurn). is_line (mode_of (left_by interpreter (typed_effects interpreter it to)))) is in
     let none : is_line (mode_by interpreter.ended (Some it) interpreter.pending) ≡ false
     = ap (λ (ended : Bool). is_line (mode_by ended (Some it) interpreter.pending)) on in
     let both : true ≡ false = sym line ∙ raw ∙ none in cc
@@ -337,7 +337,7 @@ ends_typing : (w v : Where) (interpreter : InterpreterState) (key : ℕ) (typing
 ends_typing w v interpreter key None is on typing raw line = let both : true ≡ false = sym line ∙ raw in absurd (cc)
 ends_typing w v interpreter key (Some it) is on typing raw line = by (typed.turn_of (echo_of it.typed key)) refl where
   by : (to : DataTurn) → typed.turn_of (echo_of it.typed key) ≡ to → Fresh ≡ v
-  by turns.More to = absurd (still_raw interpreter (record it { typed = bytes_behind it.typed key }) _ to line on)
+  by turns.More to = absurd (still_raw interpreter (record it { typed = bytes_after it.typed key }) _ to line on)
   by turns.Write to = goes_26 w v (ap (λ (key : ℕ). go w key) (sym (writes_at it.typed key to)) ∙ is)
   by turns.Dropped to = absurd (three (key == 3) refl) where
     is_three : (key == 3) ≡ true → key ≡ 3
@@ -348,31 +348,31 @@ ends_typing w v interpreter key (Some it) is on typing raw line = by (typed.turn
     three false other = not_dropped it.typed key other to
 
 raw_holds : (w v : Where) (at : RunState ExecState) (key : ℕ) → go w key ≡ Some v → is_line (mode_of at.state.interpreter) ≡ false → Holds w at
-    → Holds v (step exec_meaning at key)
-unfolding step_of raw_stroke
+    → Holds v (step exec_semantics at key)
+unfolding step_of raw_keystroke
 raw_holds w v at key is raw holds =
-    let state : (step exec_meaning at key).state ≡ left_by at.state (raw_deeds at.state key) = raw_leads exec_meaning at key raw in
-    let interpreter : (step exec_meaning at key).state.interpreter ≡ left_by at.state.interpreter (raw_by at.state.interpreter key at.state.interpreter.typing)
+    let state : (step exec_semantics at key).state ≡ left_by at.state (raw_effects at.state key) = raw_leads exec_semantics at key raw in
+    let interpreter : (step exec_semantics at key).state.interpreter ≡ left_by at.state.interpreter (raw_by at.state.interpreter key at.state.interpreter.typing)
     = ap (λ (it : ExecState). it.interpreter) state ∙ raw_interpreter at.state key in
-    let session : (step exec_meaning at key).session ≡ line_start (mode_of (left_by at.state (raw_deeds at.state key)).interpreter) at.session
-    = ap (λ (s : Stroke ExecState). (step_by exec_meaning at s).session) (of_raw at key (mode_of at.state.interpreter) raw)
-    ∙ ap (λ (it : ExecState). line_start (mode_of it.interpreter) at.session) (state-deeds (raw_deeds at.state key) at.state) in
-    let here : (step exec_meaning at key).session ≡ line_start (mode_of (step exec_meaning at key).state.interpreter) at.session
+    let session : (step exec_semantics at key).session ≡ line_start (mode_of (left_by at.state (raw_effects at.state key)).interpreter) at.session
+    = ap (λ (s : Keystroke ExecState). (step_by exec_semantics at s).session) (of_raw at key (mode_of at.state.interpreter) raw)
+    ∙ ap (λ (it : ExecState). line_start (mode_of it.interpreter) at.session) (state-effects (raw_effects at.state key) at.state) in
+    let here : (step exec_semantics at key).session ≡ line_start (mode_of (step exec_semantics at key).state.interpreter) at.session
     = session ∙ ap (λ (it : ExecState). line_start (mode_of it.interpreter) at.session) (sym state) in
-    let going : (step exec_meaning at key).state.interpreter.ended ≡ false
+    let going : (step exec_semantics at key).state.interpreter.ended ≡ false
     = ap (λ (it : InterpreterState). it.ended) interpreter ∙ keys_on at.state.interpreter key at.state.interpreter.typing ∙ holds.on in
     record {
       quiet = step_quiet at key holds.quiet going;
       on = going;
       node = λ line. ap (λ (it : SessionState). it.node) here ∙ begins_node _ at.session line;
-      line = λ line. subst (λ (v : Where). Is v (met_line (step exec_meaning at key).session))
+      line = λ line. subst (λ (v : Where). Is v (line_before (step exec_semantics at key).session))
           (ends_typing w v at.state.interpreter key at.state.interpreter.typing is holds.on refl raw
           (ap (λ (it : InterpreterState). is_line (mode_of it)) (sym interpreter) ∙ line))
-          (inl (ap (λ (it : SessionState). met_line it) here ∙ begins_empty _ at.session line));
+          (inl (ap (λ (it : SessionState). line_before it) here ∙ begins_empty _ at.session line));
     }
 
-pub step_holds : (w v : Where) (at : RunState ExecState) (key : ℕ) → go w key ≡ Some v → Holds w at → Holds v (step exec_meaning at key)
+pub step_holds : (w v : Where) (at : RunState ExecState) (key : ℕ) → go w key ≡ Some v → Holds w at → Holds v (step exec_semantics at key)
 step_holds w v at key is holds = by (is_line (mode_of at.state.interpreter)) refl where
-  by : (line : Bool) → is_line (mode_of at.state.interpreter) ≡ line → Holds v (step exec_meaning at key)
+  by : (line : Bool) → is_line (mode_of at.state.interpreter) ≡ line → Holds v (step exec_semantics at key)
   by true line = line_holds w v at key is line holds
   by false raw = raw_holds w v at key is raw holds

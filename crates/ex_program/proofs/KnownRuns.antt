@@ -18,7 +18,7 @@ use Rattle.ex_take.specs.Interpreter.{mode_by}
 use Rattle.ex_take.specs.declared.pending.Pending.{Pending}
 use Rattle.ex_take.specs.declared.typing.Typing.{Typing}
 use Rattle.ex_program.specs.ExecRun.{exec_left, exec_over, exec_trace, run_shown}
-use Rattle.ex_program.specs.Stands.{Stands}
+use Rattle.ex_program.specs.RunEnd.{Stands}
 
 -- the EXEC has ended the run where LOGOUT has acted
 ended_by : (ended : Bool) (typing : Option Typing) (pending : Option Pending) → is_ended (mode_by ended typing pending) ≡ ended
@@ -41,33 +41,33 @@ pub no_usage : (asked : Option Form) (lines : Option ℕ) (form : Form) (result 
 no_usage asked lines form result is other = (λ same. absurd (other same), λ none. let wrong : Some form ≡ None = is ∙ none.0 in absurd (cc))
 
 -- what stands, by what the words ask for
-pub stands_asked : (told : Telling) (asked : Option Form) (lines : Option ℕ) (form : Form) (a b : Scene) (before now : Disk) (result : Status)
-    → Some form ≡ asked → StandsBy told exec_over form a b before now result → Stands told asked lines a b before now result
-stands_asked told asked lines form a b before now result is stands =
-    subst (λ (it : Option Form). Stands told it lines a b before now result) is stands
+pub stands_asked : (known : Telling) (asked : Option Form) (lines : Option ℕ) (form : Form) (a b : Scene) (before now : Disk) (result : Status)
+    → Some form ≡ asked → StandsBy known exec_over form a b before now result → Stands known asked lines a b before now result
+stands_asked known asked lines form a b before now result is stands =
+    subst (λ (it : Option Form). Stands known it lines a b before now result) is stands
 
 -- what one run saved the next reads
-module _ (told : Telling) where
-  loaded_tells : (form : Form) (a b : Scene) (before now : Disk) (result : Status) (run : Past told exec_over form a b before now result)
+module _ (known : Telling) where
+  loaded_tells : (form : Form) (a b : Scene) (before now : Disk) (result : Status) (run : Past known exec_over form a b before now result)
       → IsTrue before.tells → IsTrue run.loaded.tells
   loaded_tells form a b before now result run tells = subst (λ (it : Bool). IsTrue it) (sym run.begins.0.tells) tells
 
   pub read_again : (form next : Form) (a b c d : Scene) (before now later last : Disk) (result other : Status)
-      → (run : Past told exec_over form a b before now result) → (again : Past told exec_over next c d later last other)
+      → (run : Past known exec_over form a b before now result) → (again : Past known exec_over next c d later last other)
       → (result ≡ status.HostFault → ⊥) → IsTrue before.tells → IsTrue later.tells → next.input ≡ Some form.out
       → later.files form.out ≡ now.files form.out → again.start ≡ run.left.interpreter.state
-  read_again form next a b c d before now later last result other run again went tells reads same stays =
+  read_again form next a b c d before now later last result other run again outcome tells reads same stays =
       let began : Began later (Some form.out) again.start =
       subst (λ (it : Option (List ℕ)). Began later it again.start) same again.begins.2 in
       one_image (later.files form.out) again.start run.left.interpreter.state (began reads)
-      (saved_image run.loaded now later form.out run.left.interpreter.state result run.saves went
+      (saved_image run.loaded now later form.out run.left.interpreter.state result run.saves outcome
       (loaded_tells form a b before now result run tells) stays)
 
   pub taken_again : (form : Form) (a b : Scene) (before now later : Disk) (result other : Status)
-      → Past told exec_over form a b before now result → (result ≡ status.HostFault → ⊥) → IsTrue before.tells → IsTrue later.tells
+      → Past known exec_over form a b before now result → (result ≡ status.HostFault → ⊥) → IsTrue before.tells → IsTrue later.tells
       → later.files form.out ≡ now.files form.out → InputCause later (Some form.out) other → IsRun other
-  taken_again form a b before now later result other run went tells reads stays cause =
+  taken_again form a b before now later result other run outcome tells reads stays cause =
       from_image (later.files form.out) run.left.interpreter.state other
-      (saved_image run.loaded now later form.out run.left.interpreter.state result run.saves went
+      (saved_image run.loaded now later form.out run.left.interpreter.state result run.saves outcome
       (loaded_tells form a b before now result run tells) stays)
       (cause reads)

@@ -1,7 +1,7 @@
 mod AllKeys
 mod Fronts
-mod GeneratedRuns
 mod GeneratedKeyLaws
+mod GeneratedRuns
 mod Harmless
 mod Heads
 mod KeySteps

@@ -17,7 +17,7 @@ use Rattle.cm_state.specs.Edit.{edit}
 abbrev pub is_letter : ℕ → Bool
 is_letter byte = byte == 67 || (byte == 68 || (byte == 69 || (byte == 73 || byte == 85)))
 
--- where in a line a key is: at its start, behind such a letter, behind one more byte, behind an L, or behind LI
+-- where in a line a key is: at its start, after such a letter, after one more byte, after an L, or after LI
 pub data Where : Type 0 where
   Fresh : Where
   Begun : Where
@@ -100,7 +100,7 @@ letter_class : (line : List ℕ) (key : ℕ) → is_letter key ≡ true → clas
 unfolding is_text
 letter_class line key is = text_class line key (by_letter (λ it. is_text it ≡ true) refl refl refl refl refl key is)
 
--- what a key comes to: the line goes on so, or it is finished
+-- the outcome of a key: the line goes on so, or it is finished
 abbrev pub is_edit : KeyClass → Bool
 is_edit Text = true
 is_edit Rub = true
@@ -110,11 +110,11 @@ is_edit Other = true
 is_edit Join = true
 is_edit class = false
 
-pub record Edits (line inserted : List ℕ) (restorable : Option (List ℕ)) (key : ℕ) (to : Where) : Type 0 where
+pub record Edits (line inserted : List ℕ) (recall : Option (List ℕ)) (key : ℕ) (to : Where) : Type 0 where
   pub class : KeyClass
   pub class_is : class_at line key ≡ class
   pub edits : is_edit class ≡ true
-  pub there : Is to (edit class key line restorable inserted)
+  pub there : Is to (edit class key line recall inserted)
 
 pub record Ends (line : List ℕ) (key : ℕ) (to : Where) : Type 0 where
   pub class_is : class_at line key ≡ End
@@ -136,19 +136,19 @@ not_so : (test : Bool) → not test ≡ true → test ≡ false
 not_so true is = absurd (cc)
 not_so false is = refl
 
-module _ (inserted : List ℕ) (restorable : Option (List ℕ)) where
+module _ (inserted : List ℕ) (recall : Option (List ℕ)) where
   -- a byte more, where one fits
-  more_headed : (line : List ℕ) (key : ℕ) → Headed line → Headed (edit Text key line restorable inserted)
+  more_headed : (line : List ℕ) (key : ℕ) → Headed line → Headed (edit Text key line recall inserted)
   more_headed line key it =
-      subst (λ (line : List ℕ). Headed (edit Text key line restorable inserted)) (sym it.3) (by (nat_lt (length (it.0 ∷ it.1)) LINE_LIMIT)) where
+      subst (λ (line : List ℕ). Headed (edit Text key line recall inserted)) (sym it.3) (by (nat_lt (length (it.0 ∷ it.1)) LINE_LIMIT)) where
         by : (test : Bool) → Headed (cond test ((it.0 ∷ it.1) ++ key ∷ []) (it.0 ∷ it.1))
         by true = (it.0, it.1 ++ key ∷ [], it.2, refl)
         by false = (it.0, it.1, it.2, refl)
 
-  -- two at least behind a letter
-  longer : (line : List ℕ) (key : ℕ) → Headed line → Long (edit Text key line restorable inserted)
-  longer line key it = subst (λ (line : List ℕ). Long (edit Text key line restorable inserted)) (sym it.3) (by it.1) where
-    by : (rest : List ℕ) → Long (edit Text key (it.0 ∷ rest) restorable inserted)
+  -- two at least after a letter
+  longer : (line : List ℕ) (key : ℕ) → Headed line → Long (edit Text key line recall inserted)
+  longer line key it = subst (λ (line : List ℕ). Long (edit Text key line recall inserted)) (sym it.3) (by it.1) where
+    by : (rest : List ℕ) → Long (edit Text key (it.0 ∷ rest) recall inserted)
     by [] = (it.0, key, [], it.2, refl)
     by (second ∷ rest) = fits (nat_lt (length (it.0 ∷ second ∷ rest)) LINE_LIMIT) where
       fits : (test : Bool) → Long (cond test ((it.0 ∷ second ∷ rest) ++ key ∷ []) (it.0 ∷ second ∷ rest))
@@ -186,10 +186,10 @@ module _ (inserted : List ℕ) (restorable : Option (List ℕ)) where
   split A false to v later is here there = there is
 
   abbrev Comes : List ℕ → ℕ → Where → Type 0
-  Comes line key v = Ends line key v ⊎ Edits line inserted restorable key v
+  Comes line key v = Ends line key v ⊎ Edits line inserted recall key v
 
   edits_to : (line : List ℕ) (key : ℕ) (class : KeyClass) (to v : Where) → to ≡ v → class_at line key ≡ class → is_edit class ≡ true
-      → Is to (edit class key line restorable inserted) → Comes line key v
+      → Is to (edit class key line recall inserted) → Comes line key v
   edits_to line key class to v same class_is edits there =
       subst (λ (v : Where). Comes line key v) same (inr (record { class = class; class_is = class_is; edits = edits; there = there }))
 
@@ -210,12 +210,12 @@ module _ (inserted : List ℕ) (restorable : Option (List ℕ)) where
       (λ is. split _ (key == 127) Fresh v _ is (λ same to. edits_to line key Rub Fresh v to (rub_class line key same) refl (fewer (length line - 1) line at))
       (λ is. split _ (key == 23) Fresh v _ is (λ same to. edits_to line key Word Fresh v to (word_class line key same) refl (fewer (word_start line) line at))
       (λ is. absurd (cc)))))) where
-        lettered : Is Fresh line → is_letter key ≡ true → Headed (edit Text key line restorable inserted)
-        lettered (inl none) is = subst (λ (line : List ℕ). Headed (edit Text key line restorable inserted)) (sym none) (key, [], is, refl)
+        lettered : Is Fresh line → is_letter key ≡ true → Headed (edit Text key line recall inserted)
+        lettered (inl none) is = subst (λ (line : List ℕ). Headed (edit Text key line recall inserted)) (sym none) (key, [], is, refl)
         lettered (inr it) is = more_headed line key it
 
-        other : Is Fresh line → key ≡ 76 → Is Ell (edit Text key line restorable inserted)
-        other (inl none) is = inl (ap (λ (line : List ℕ). edit Text key line restorable inserted) none ∙ ap (λ (byte : ℕ). byte ∷ []) is)
+        other : Is Fresh line → key ≡ 76 → Is Ell (edit Text key line recall inserted)
+        other (inl none) is = inl (ap (λ (line : List ℕ). edit Text key line recall inserted) none ∙ ap (λ (byte : ℕ). byte ∷ []) is)
         other (inr it) is = inr (more_headed line key it)
 
   after_end : (v : Where) (line : List ℕ) (key : ℕ) → (key == 13) ≡ true → Fresh ≡ v → Is Lined line → Comes line key v
@@ -279,10 +279,10 @@ module _ (inserted : List ℕ) (restorable : Option (List ℕ)) where
   after_ell v line key is at =
       split _ (key == 73) Lined v _ is (λ same to. edits_to line key Text Lined v to (text_class line key (ap is_text (equal key 73 same))) refl (listed at (equal key 73 same)))
       (λ is. absurd (cc)) where
-        listed : Is Ell line → key ≡ 73 → Is Lined (edit Text key line restorable inserted)
+        listed : Is Ell line → key ≡ 73 → Is Lined (edit Text key line recall inserted)
         listed (inl one) same =
-            let line_is : edit Text key line restorable inserted ≡ 76 ∷ 73 ∷ []
-            = ap (λ (line : List ℕ). edit Text key line restorable inserted) one ∙ ap (λ (byte : ℕ). 76 ∷ byte ∷ []) same in
+            let line_is : edit Text key line recall inserted ≡ 76 ∷ 73 ∷ []
+            = ap (λ (line : List ℕ). edit Text key line recall inserted) one ∙ ap (λ (byte : ℕ). 76 ∷ byte ∷ []) same in
             inl ([], line_is, ap (λ (it : List ℕ). ends_in_hyphen it) line_is)
         listed (inr it) same = inr (more_headed line key it)
 
@@ -293,14 +293,14 @@ module _ (inserted : List ℕ) (restorable : Option (List ℕ)) where
       (λ both to. let parts = and_parts (is_text key) (not (key == 45)) both in
       edits_to line key Text Lined v to (text_class line key parts.0) refl (listed at (not_so (key == 45) parts.1)))
       (λ is. absurd (cc))) where
-        listed : Is Lined line → (key == 45) ≡ false → Is Lined (edit Text key line restorable inserted)
+        listed : Is Lined line → (key == 45) ≡ false → Is Lined (edit Text key line recall inserted)
         listed (inr it) other = inr (more_headed line key it)
         listed (inl it) other = by (nat_lt (length line) LINE_LIMIT) where
           by : (fits : Bool) → Is Lined (cond fits (line ++ key ∷ []) line)
           by true = inl (it.0 ++ key ∷ [], ap (λ (line : List ℕ). line ++ key ∷ []) it.1, hyphen_last line key ∙ other)
           by false = inl it
 
-  -- what a key comes to
+  -- the outcome of a key
   pub after : (w v : Where) (line : List ℕ) (key : ℕ) → go w key ≡ Some v → Is w line → Comes line key v
   after Fresh v line key is at = after_fresh v line key is at
   after Begun v line key is at = after_begun v line key is at

@@ -1,17 +1,17 @@
--- What a run that only counts comes to, and its summary.
+-- The outcome of a run that only counts, and its summary.
 use Rattle.std.proofs.Common.{◌≡◌, ◌≤◌, ◌<◌, ◌+◌, ◌-◌, ℕ, Bool, false, List, [], ◌∷◌, ◌++◌, length, min, Ok, Err, inr, refl, sym, ap, ◌∙◌, arith, length-append}
 use Rattle.std.proofs.lemmas.List.{append-nil}
 use Rattle.cm_io.specs.Fault.{Rose, last_count}
-use Rattle.cm_io.specs.Told.{Told, Number, add}
+use Rattle.cm_io.specs.Contents.{Contents, Number, add}
 use Rattle.cm_run.specs.Cause.{KeyCount, RunCause, counts}
 use Rattle.cm_run.specs.Cut.{Cut, MemoryCut, ScreenCut, LogCut, KeyCut, EndCut, LimitCut, Traces, event_of, part_of, why_of}
-use Rattle.cm_run.specs.Event.{Event, keys_of, screen_bytes, state_behind, trials_of}
-use Rattle.cm_run.specs.Observed.{Between, Observed, Performs}
+use Rattle.cm_run.specs.Event.{Event, keys_of, screen_bytes, state_after, trials_of}
+use Rattle.cm_run.specs.Observation.{Between, Observation, Performs}
 use Rattle.cm_run.specs.declared.stop.Stop.{Stop}
 use Rattle.cm_run.specs.declared.stop.Stop.TheVariants as stop
 use Rattle.cm_run.specs.Trace.{run_trace}
 use Rattle.ex_store.specs.State.{State, first_state}
-use Rattle.ex_take.specs.Exec.{exec_meaning}
+use Rattle.ex_take.specs.Exec.{exec_semantics}
 use Rattle.ex_take.specs.ExecState.{ExecState, exec_start}
 use Rattle.ex_program.specs.GeneratedKeys.{generated_keys}
 use Rattle.ex_program.specs.Waiting.{Waiting}
@@ -19,7 +19,7 @@ use Rattle.ex_run.specs.Over.{closing}
 use Rattle.ex_program.specs.Summary.{LacksMemory, generated_trace, summary_of}
 use Rattle.ex_program.specs.declared.summary.Summary.{Summary}
 
--- over fewer keys than the limit, with nothing outside that fails, a run is cut short by want of memory alone
+-- over fewer keys than the limit, with nothing outside that fails, a run is cut short by lack of memory alone
 pub memory_alone : (limit before now : ℕ) (ended : Bool) (why : Stop) → RunCause (counts 0 0 0) (counts 0 0 0) (Err why)
     → KeyCount limit before now ended (Err why) → before < limit → why ≡ stop.Memory
 unfolding RunCause KeyCount Rose
@@ -29,7 +29,7 @@ memory_alone limit before now ended stop.Log cause count few = absurd (omega (ar
 memory_alone limit before now ended stop.Keys cause count few = absurd (omega (arith, cause.0))
 memory_alone limit before now ended stop.Limit cause count few = absurd (omega (arith, few, count.0))
 
--- a cut for want of memory is one at an event that asks for it
+-- a cut for lack of memory is one at an event that asks for it
 pub is_memory : (cut : Cut) → why_of cut ≡ stop.Memory → cut ≡ MemoryCut
 is_memory (ScreenCut part rest) why = absurd (cc)
 is_memory (LogCut part rest) why = absurd (cc)
@@ -40,12 +40,12 @@ is_memory LimitCut why = absurd (cc)
 
 module _ {S : Type 0} where
   -- a run that went to its end
-  pub performed : (before now : Observed S) (events : List (Event S)) → Traces before now events (Ok tt) → Between before now events
+  pub performed : (before now : Observation S) (events : List (Event S)) → Traces before now events (Ok tt) → Between before now events
   unfolding Traces Performs
   performed before now events traces = traces
 
 -- one that was cut short for memory
-pub cut_for_memory : (lines : ℕ) (before now : Observed ExecState) (events : List (Event ExecState)) (why : Stop)
+pub cut_for_memory : (lines : ℕ) (before now : Observation ExecState) (events : List (Event ExecState)) (why : Stop)
     → why ≡ stop.Memory → Traces before now events (Err why) → events ≡ generated_trace lines
     → LacksMemory lines before.trials now.trials
 unfolding Traces Performs
@@ -69,9 +69,9 @@ taken all left front rest whole before now joined =
     (omega (arith, before, now, both, sizes), omega (arith, before, now, both, sizes))
 
 -- what a sink has counted
-number_in : Told → ℕ
+number_in : Contents → ℕ
 number_in (Number n) = n
-number_in told = 0
+number_in known = 0
 
 -- a sink that counts has counted all that was put, as far as 64 bits count it
 pub shown : (first middle last : ℕ) (bytes more : List ℕ) → first ≡ 0 → Number middle ≡ add (Number first) bytes
@@ -92,10 +92,10 @@ same_summary lines a b c d e f g h one two three four = cc
 -- the figures of the run that begins so
 module _ (start : ExecState) (keys : List ℕ) where
   abbrev trace : List (Event ExecState)
-  trace = run_trace exec_meaning false start [] keys
+  trace = run_trace exec_semantics false start [] keys
 
   abbrev left : ExecState
-  left = state_behind start trace
+  left = state_after start trace
 
   abbrev pub figures : ℕ → Summary
   figures lines = record {

@@ -28,6 +28,7 @@ form_by (Some two) three = files_of false two.first two.second
 form_by None (Some three) = with_log three.first three.second three.third
 form_by None None = None
 
+-- [usage]
 unfoldable pub form_of : Given → Option Form
 form_of words = form_by (pair_of words) (triple_of words)
 
@@ -43,12 +44,12 @@ unfoldable pub lines_in : List ℕ → Option ℕ
 lines_in word = if is_number word then lines_by (digits_value 10 word) else None
 
 -- `-g N` asks for a run over the keys of so many generated lines
-abbrev pub lines_behind : List ℕ → List ℕ → Option ℕ
-lines_behind flag count = if bytes_eq flag (codes "-g") then lines_in count else None
+abbrev pub lines_after : List ℕ → List ℕ → Option ℕ
+lines_after flag count = if bytes_eq flag (codes "-g") then lines_in count else None
 
 abbrev pub lines_of_pair : Option Two → Option ℕ
 lines_of_pair None = None
-lines_of_pair (Some two) = lines_behind two.first two.second
+lines_of_pair (Some two) = lines_after two.first two.second
 
 unfoldable pub lines_of : Given → Option ℕ
 lines_of words = lines_of_pair (pair_of words)

@@ -63,12 +63,12 @@ keys_by position file kind =
 unfoldable pub line_keys : ℕ → ℕ → List ℕ
 line_keys position number = keys_by position (file_of number) (kind_of number)
 
--- the keys of so many lines behind the line at a position, which has this number
-unfoldable pub keys_behind : ℕ → ℕ → ℕ → List ℕ
-keys_behind position number zero = []
-keys_behind position number (suc lines) =
-    line_keys (position + 1) (next_number number) ++ keys_behind (position + 1) (next_number number) lines
+-- the keys of so many lines after the line at a position, which has this number
+unfoldable pub keys_after : ℕ → ℕ → ℕ → List ℕ
+keys_after position number zero = []
+keys_after position number (suc lines) =
+    line_keys (position + 1) (next_number number) ++ keys_after (position + 1) (next_number number) lines
 
 -- the keys of so many lines: the number before the first is how many there are
 abbrev pub generated_keys : ℕ → List ℕ
-generated_keys lines = keys_behind 0 lines lines
+generated_keys lines = keys_after 0 lines lines

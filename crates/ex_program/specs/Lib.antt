@@ -3,7 +3,7 @@ pub mod Form
 pub mod GeneratedKeys
 pub mod Generates
 pub mod Progress
-pub mod Stands
+pub mod RunEnd
 pub mod Summary
 pub mod TakesMemory
 pub mod Waiting

@@ -1,7 +1,7 @@
 -- A generated run, and its summary.
 use Rattle.std.specs.Prelude.{ℕ, ◌≡◌, ◌⊎◌, ◌+◌, ◌++◌, false, List, [], ◌∷◌, length, min, codes}
 use Rattle.std.specs.Fmt.{decimal}
-use Rattle.cm_text.specs.Shown.{end_of_line}
+use Rattle.cm_text.specs.ScreenBytes.{end_of_line}
 use Rattle.cm_io.specs.Fault.{last_count}
 use Rattle.cm_run.specs.Event.{Event, Memory, keys_of, trials_of}
 use Rattle.ex_store.specs.State.{first_state}
@@ -20,6 +20,7 @@ generated_left lines = exec_left false first_state [] (generated_keys lines)
 abbrev pub generated_shown : ℕ → List ℕ
 generated_shown lines = run_shown false first_state [] (generated_keys lines)
 
+-- [summary]
 -- of so many lines, how many were refused, by the parser or by what they command; how many keys were taken; how many
 -- bytes were shown, as far as 64 bits count them; and how many generations there are at the end, marked ones too
 abbrev pub summary_of : ℕ → Summary
@@ -39,7 +40,7 @@ pub record IsCutForMemory (lines before now : ℕ) : Type 0 where
   pub split : done ++ Memory ∷ rest ≡ generated_trace lines
   pub trials : now ≡ before + trials_of done
 
--- memory was wanting: before the run, and the counter stays, or at an act of it
+-- memory ran out: before the run, and the counter stays, or at an act of it
 abbrev pub LacksMemory : ℕ → ℕ → ℕ → Type 0
 LacksMemory lines before now = (now ≡ before) ⊎ IsCutForMemory lines before now
 

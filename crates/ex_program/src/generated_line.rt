@@ -9,7 +9,7 @@ use cm_text::{DIGIT_LIMIT, decimal_digits};
 // Room for the longest line.
 pub(crate) const LINE_ROOM: usize = 64;
 
-// Puts the digits of a number behind a line.
+// Puts the digits of a number after a line.
 fn push_number(line: &mut ArrayString<LINE_ROOM>, number: u64)
     requires { length line.old.bytes + DIGIT_LIMIT ≤ LINE_ROOM }
     ensures bytes { line.new.bytes ≡ line.old.bytes ++ decimal number }
@@ -41,7 +41,7 @@ fn name_file(start: &str, file: u64, end: &str) -> ArrayString<LINE_ROOM>
     line
 }
 
-// What stands before the file, before the position and behind it, where a file is typed in.
+// What stands before the file, before the position and after it, where a file is typed in.
 #[tactic(auto, unfolding(crate::specs::GeneratedKeys::copy_start))]
 fn copy_start() -> &'static str
     ensures bytes { result.now ≡ copy_start }

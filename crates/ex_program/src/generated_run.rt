@@ -1,6 +1,6 @@
 // A generated run.
 ghost use Rattle.std.specs.Prelude.{◌≡◌, ◌≤◌, ◌+◌, IfOk, OnErr};
-ghost use Rattle.cm_io.specs.Told.{Number, add};
+ghost use Rattle.cm_io.specs.Contents.{Number, add};
 ghost use Rattle.cm_run.specs.Event.{trials_of};
 ghost use Rattle.ex_program.specs.declared.progress.TheConstants.{GENERATED_LINES};
 ghost use Rattle.ex_run.specs.Over.{closing};
@@ -19,7 +19,7 @@ use ex_take::Exec;
 use std::alloc::Global;
 use std::sync::ledger::Ledger;
 
-// The error of a run that was cut short: want of memory is all that cuts one short here. A proof is told so.
+// The error of a run that was cut short: lack of memory is all that cuts one short here. A proof is told so.
 fn error_of(_why: Stop) -> NoMemory
     requires { _why ≡ Stop.Memory }
     ensures { _why ≡ Stop.Memory }
@@ -38,17 +38,18 @@ fn end_line(ended: bool, screen: &mut CountSink)
 }
 
 /// Runs the EXEC over the keys of so many generated lines, from the first store, without a log, at the moment 0 for
-/// each line, and sums up what came of it. `steps` counts the trials. NoMemory where memory is wanting.
+/// each line, and sums up what came of it. `steps` counts the trials. NoMemory where memory runs out.
 pub fn summarize<L: Ledger>(
     alloc: Global,
     lines: u32,
     steps: &mut Steps<L>,
 ) -> Result<Summary, NoMemory>
     requires lines { lines ≤ GENERATED_LINES }
+    // [summary]
     ensures summary { IfOk result (λ summary. summary ≡ summary_of lines) }
     // The counter has risen by what the trials of all keys cost ..
     ensures counted { IfOk result (λ summary. steps.new ≡ steps.old + trials_of (generated_trace lines)) }
-    // .. and where memory is wanting, before the run or at an act of it, by those before.
+    // .. and where memory runs out, before the run or at an act of it, by those before.
     ensures wanting { OnErr result (LacksMemory lines steps.old steps.new) }
 {
     let grammar = grammar(alloc)?;

@@ -35,7 +35,7 @@ pub fn what_is_saved_is_read_again<K: Source, C: Clock>()
         → later.files form.out ≡ now.files form.out → InputCause later (Some form.out) other → IsRun other }
 {}
 
-/// Past the first prompt memory is wanting at two kinds of keys alone: control-Z, 26, which writes a file that is typed
+/// Past the first prompt memory runs out at two kinds of keys alone: control-Z, 26, which writes a file that is typed
 /// in; and a key that finishes a line of a command that takes memory: APPEND, BUILD, COPY, COPY TTY:, DEFINE with a
 /// directory, PRINT, RENAME, or TAKE with the lines of the files that it takes. Of a BUILD that waits for subcommands
 /// it is the line that ends them.

@@ -1,6 +1,6 @@
 // The program over what is outside of it.
 ghost use Rattle.std.specs.Prelude.{◌≡◌, ◌⊎◌, ◌≤◌, ◌<◌, ◌↔◌, ◌+◌, ℕ, false, List, ◌++◌, length, None, Some, IsTrue};
-ghost use Rattle.cm_io.specs.Told.{add};
+ghost use Rattle.cm_io.specs.Contents.{add};
 ghost use Rattle.cm_run.specs.Cause.{counts};
 ghost use Rattle.cm_run.specs.Event.{log_bytes, trials_of};
 ghost use Rattle.cm_run.specs.Keeping.{KeepsLine};
@@ -8,9 +8,9 @@ ghost use Rattle.tt_screen.specs.Grid.{feed};
 ghost use Rattle.tt_screen.specs.Holds.{Holds};
 ghost use Rattle.ex_image.specs.Image.{image_text};
 ghost use Rattle.ex_store.specs.State.{State};
-ghost use Rattle.ex_take.specs.Exec.{exec_meaning};
+ghost use Rattle.ex_take.specs.Exec.{exec_semantics};
 ghost use Rattle.ex_take.specs.ExecState.{exec_start};
-ghost use Rattle.ex_system.specs.Asked.{form_view};
+ghost use Rattle.ex_system.specs.WordViews.{form_view};
 ghost use Rattle.ex_system.specs.Disk.{disk_of};
 ghost use Rattle.ex_system.specs.Form.{Form};
 ghost use Rattle.ex_system.specs.Quiet.{IsQuiet};
@@ -23,7 +23,7 @@ ghost use Rattle.ex_program.specs.declared.progress.TheConstants.{GENERATED_LINE
 ghost use Rattle.ex_program.specs.ExecRun.{exec_left, exec_over, exec_trace, run_shown};
 ghost use Rattle.ex_program.specs.Form.{form_of, lines_of};
 ghost use Rattle.ex_program.specs.Generates.{Rises, Shows, Sums};
-ghost use Rattle.ex_program.specs.Stands.{Stands};
+ghost use Rattle.ex_program.specs.RunEnd.{Stands};
 ghost use Rattle.ex_program.specs.Summary.{summary_text};
 
 use crate::generated_run::summarize;
@@ -88,12 +88,12 @@ fn run_form<H: Host, K: Source, S: Sink, W: Sink, C: Clock, L: Ledger>(
 
 // Shows a summary.
 fn show_summary<S: Sink>(summary: &Summary, screen: &mut S) -> Status
-    ensures { Shows (summary_text summary.now) (S.told screen.old) (S.told screen.new)
+    ensures { Shows (summary_text summary.now) (S.contents screen.old) (S.contents screen.new)
         (S.faults screen.old) (S.faults screen.new) result }
 {
     let mut out = Writer::new(screen);
     summary.put(&mut out);
-    match out.went() {
+    match out.outcome() {
         Put::Done => Status::Done,
         Put::Failed => Status::WriteFault,
     }
@@ -107,7 +107,7 @@ fn generate<S: Sink, L: Ledger>(
     steps: &mut Steps<L>,
 ) -> Status
     requires lines { lines ≤ GENERATED_LINES }
-    ensures screen { Sums lines (S.told screen.old) (S.told screen.new)
+    ensures screen { Sums lines (S.contents screen.old) (S.contents screen.new)
         (S.faults screen.old) (S.faults screen.new) result }
     ensures counter { Rises lines steps.old steps.new result }
 {
@@ -117,17 +117,17 @@ fn generate<S: Sink, L: Ledger>(
     }
 }
 
-/// The program `exec20`: takes the keys in turn, shows what they come to, logs the parse that is held after
+/// The program `exec20`: takes the keys in turn, shows what they do, logs the parse that is held after
 /// each where the words ask for it, does what confirmed lines command, and writes the image at the end.
 ///
 /// `words` are `IN OUT`, or `-n OUT` for a run that begins anew, with `-w` before them for a log. The run begins from
 /// the image in the file IN of `host`, and its own is written to the file OUT. A key edits the line on `screen`; a line
 /// that is confirmed acts, at a moment of `clock`. With `-g N` the program runs over the keys of N generated lines, in
 /// memory alone, and shows the summary of that run. The status is Usage exactly where the words are none of these,
-/// before anything else is touched, and NoMemory where memory is wanting, before the first prompt or at a line that
+/// before anything else is touched, and NoMemory where memory runs out, before the first prompt or at a line that
 /// needs it. The others are said of below, clause by clause.
 ///
-/// `steps` counts the trials: a key costs those of its line behind the fields that the unchanged front of the line
+/// `steps` counts the trials: a key costs those of its line after the fields that the unchanged front of the line
 /// decides.
 pub fn exec20<H: Host, K: Source, S: Sink, W: Sink, C: Clock, L: Ledger>(
     alloc: Global,
@@ -143,12 +143,12 @@ pub fn exec20<H: Host, K: Source, S: Sink, W: Sink, C: Clock, L: Ledger>(
     // the first one or that whose image the file IN has ..
     ensures done_shown { IsTrue K.tells → IsTrue C.tells → result ≡ Status.Done
         → (form : Form) → (start : State) → Asks (form_of words.now) (disk_of H.Host host.old) form start
-        → S.told screen.new ≡ add (S.told screen.old)
+        → S.contents screen.new ≡ add (S.contents screen.old)
         (run_shown form.logs start (C.left clock.old) (K.left keys.old)) }
     // .. the log what it logs ..
     ensures done_logged { IsTrue K.tells → IsTrue C.tells → result ≡ Status.Done
         → (form : Form) → (start : State) → Asks (form_of words.now) (disk_of H.Host host.old) form start
-        → W.told log.new ≡ add (W.told log.old)
+        → W.contents log.new ≡ add (W.contents log.old)
         (log_bytes (exec_trace form.logs start (C.left clock.old) (K.left keys.old))) }
     // .. the counter has risen by what the trials of all keys cost, with a log or without ..
     ensures done_counted { IsTrue K.tells → IsTrue C.tells → result ≡ Status.Done
@@ -160,12 +160,12 @@ pub fn exec20<H: Host, K: Source, S: Sink, W: Sink, C: Clock, L: Ledger>(
         → H.files host.new form.out
         ≡ Some (image_text (exec_left form.logs start (C.left clock.old) (K.left keys.old)).interpreter.state) }
 
-    // Behind each beginning of the keys taken the screen shows the prompt and the line as they then are, where the next
+    // After each beginning of the keys taken the screen shows the prompt and the line as they then are, where the next
     // key is for a line: all that the run over them shows leaves both on any screen whose last row was blank.
     ensures on_screen { IsTrue K.tells → IsTrue C.tells → (form : Form) → (start : State)
         → Asks (form_of words.now) (disk_of H.Host host.old) form start
         → (taken rest : List ℕ) → (taken ++ rest) ++ K.left keys.new ≡ K.left keys.old
-        → KeepsLine feed Holds exec_meaning (exec_start start) (C.left clock.old) taken }
+        → KeepsLine feed Holds exec_semantics (exec_start start) (C.left clock.old) taken }
 
     // What stands, whatever the status. With `-g N` nothing but the screen and the counter is touched: the summary of
     // the run over the keys of so many lines is shown, and the counter has risen by what they cost; or memory is
@@ -179,9 +179,9 @@ pub fn exec20<H: Host, K: Source, S: Sink, W: Sink, C: Clock, L: Ledger>(
         (disk_of H.Host host.old) (disk_of H.Host host.new) result }
     // Without a log nothing is asked of it.
     ensures unlogged { logs (form_of words.now) ≡ false
-        → (W.told log.new ≡ W.told log.old) × (W.faults log.new ≡ W.faults log.old) }
+        → (W.contents log.new ≡ W.contents log.old) × (W.faults log.new ≡ W.faults log.old) }
 
-    // When each status may come.
+    // [usage] When each status may come.
     ensures usage { (result ≡ Status.Usage) ↔ ((form_of words.now ≡ None) × (lines_of words.now ≡ None)) }
     ensures cause { StatusCause (counts (S.faults screen.old) (W.faults log.old) (K.faults keys.old))
         (counts (S.faults screen.new) (W.faults log.new) (K.faults keys.new)) result }

@@ -27,7 +27,7 @@ fn next_number(number: u64) -> u64
 /// How far the lines are taken.
 #[derive(Drop)]
 pub(crate) struct Progress {
-    // how many lines are to come behind the one at hand
+    // how many lines are to come after the one at hand
     pub(crate) lines: u32,
     // the position of the one at hand, and its number
     pub(crate) position: u32,

@@ -2,9 +2,9 @@
 ghost use Rattle.std.specs.Prelude.{◌≡◌, ◌≤◌, IfSome};
 ghost use Rattle.std.specs.Str.{bytes_eq};
 ghost use Rattle.std.specs.Option.{option_map};
-ghost use Rattle.ex_system.specs.Asked.{form_view};
+ghost use Rattle.ex_system.specs.WordViews.{form_view};
 ghost use Rattle.ex_program.specs.declared.progress.TheConstants.{GENERATED_LINES};
-ghost use Rattle.ex_program.specs.Form.{files_of, form_of, is_number, lines_behind, lines_in, lines_of, usage, with_log};
+ghost use Rattle.ex_program.specs.Form.{files_of, form_of, is_number, lines_after, lines_in, lines_of, usage, with_log};
 
 use crate::GENERATED_LINES;
 use cm_fields::{are_digits, value_of};
@@ -42,7 +42,7 @@ pub(crate) fn read_lines(words: &Words) -> Option<u32>
     ensures few { IfSome result (λ lines. lines ≤ GENERATED_LINES) }
 {
     match as_pair(words) {
-        Some(two) => lines_behind(two.first, two.second),
+        Some(two) => lines_after(two.first, two.second),
         None => None,
     }
 }
@@ -95,8 +95,8 @@ fn lines_in(word: &str) -> Option<u32>
 }
 
 // How many lines two words ask for: `-g N`.
-fn lines_behind(flag: &str, count: &str) -> Option<u32>
-    ensures lines { result ≡ lines_behind flag.now count.now }
+fn lines_after(flag: &str, count: &str) -> Option<u32>
+    ensures lines { result ≡ lines_after flag.now count.now }
     ensures few { IfSome result (λ lines. lines ≤ GENERATED_LINES) }
 {
     if is(flag, "-g") {

@@ -4,7 +4,7 @@
 // joined. The run is given `keys`, and `words` with commas between them. IN has the bytes `in`, or is not there where
 // these are `none`. The get with the number `get` fails, and the call of the host with the number `call`; screen, log
 // and file have so much room as `room`, `log-room` and `file-room` say. At the end `screen`, `log` and `out` are what
-// was put there, with `..` before what is but the end of it, and behind it too where it is but a piece; `out` is
+// was put there, with `..` before what is but the end of it, and after it too where it is but a piece; `out` is
 // `none` where no file was made, and `elsewhere`
 // where its name is not OUT. `left` is what is left of the keys, `status` the status, and `acts` how many moments were
 // taken, where the `clock` does not stand.
@@ -150,8 +150,8 @@ fn compare(alloc: Global, case: &str, name: &str, is: &[u8]) -> Result<(), Fail>
     Err(Fail::new(format_args!("{name} {:?} in the case {case}", is.as_str())))
 }
 
-// Whether bytes are those that are said, or end with what is said behind `..`, or have it in them where `..` stands
-// behind it too.
+// Whether bytes are those that are said, or end with what is said after `..`, or have it in them where `..` stands
+// after it too.
 fn fits(bytes: &[u8], said: &str) -> bool {
     match said.strip_prefix("..") {
         Some(rest) => match rest.strip_suffix("..") {

@@ -1,11 +1,11 @@
 // What lines of the EXEC's grammar cost to parse, by example.
 ghost use Rattle.std.specs.Prelude.{◌≡◌, ◌∷◌, ◌++◌, [], codes, false};
-ghost use Rattle.cm_blocks.specs.Kept.{cost};
+ghost use Rattle.cm_blocks.specs.KeptParse.{cost};
 ghost use Rattle.ex_grammar.specs.declared.node.TheConstants.{COMMANDS};
 ghost use Rattle.ex_store.specs.State.{State};
 ghost use Rattle.cm_run.specs.Event.{trials_of};
-ghost use Rattle.cm_run.specs.Meaning.{setting_of};
-ghost use Rattle.ex_take.specs.Exec.{exec_meaning};
+ghost use Rattle.cm_run.specs.Semantics.{setting_of};
+ghost use Rattle.ex_take.specs.Exec.{exec_semantics};
 ghost use Rattle.ex_take.specs.ExecState.{exec_start};
 ghost use Rattle.ex_program.specs.ExecRun.{exec_trace};
 
@@ -18,8 +18,8 @@ ghost use Rattle.ex_program.specs.ExecRun.{exec_trace};
 //   opens it again.
 fn lines_cost_their_trials()
     ensures { (state : State)
-        → (cost (setting_of exec_meaning (exec_start state)) COMMANDS (codes "DIR A") (codes "DIR AB") ≡ 5)
-        × (cost (setting_of exec_meaning (exec_start state)) COMMANDS [] (codes "DIR AB") ≡ 14)
+        → (cost (setting_of exec_semantics (exec_start state)) COMMANDS (codes "DIR A") (codes "DIR AB") ≡ 5)
+        × (cost (setting_of exec_semantics (exec_start state)) COMMANDS [] (codes "DIR AB") ≡ 14)
         × (trials_of (exec_trace false state [] (codes "DIR " ++ 127 ∷ [])) ≡ 29) }
 {}
 

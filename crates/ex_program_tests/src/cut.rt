@@ -70,7 +70,7 @@ log ..{LF}0d 7 D 0.1k9@0-3 26.0n0@4-4 27.0k4@4-7{LF}
 left LOG{CR}
 acts 1
 
-# in the end of the line behind the last key
+# in the end of the line after the last key
 room 4
 keys LO
 status WriteFault
@@ -78,7 +78,7 @@ screen @LO{CR}
 log 4c 1 O{LF}4f 2 O{LF}";
 
 #[test]
-fn takes_no_key_behind_a_failed_screen(rt: HostRuntime) -> Result<(), Fail> {
+fn takes_no_key_after_a_failed_screen(rt: HostRuntime) -> Result<(), Fail> {
     try_cases(&rt, TAKES_NO_KEY_BEHIND_A_FAILED_SCREEN)
 }
 
@@ -118,7 +118,7 @@ log ..
 out {}
 acts 1
 
-# Behind the file's creation and the writing of its four lines comes its closing.
+# After the file's creation and the writing of its four lines comes its closing.
 call 2
 keys INF VER{CR}
 status HostFault
@@ -169,6 +169,7 @@ log ..
 out none
 left NF VER{CR}";
 
+// [save]
 #[test]
 fn tells_that_the_host_failed(rt: HostRuntime) -> Result<(), Fail> {
     try_cases(&rt, TELLS_THAT_THE_HOST_FAILED)

@@ -9,8 +9,8 @@ use std::test::Fail;
 const SESSION: &str =
     "COPY TTY: A.TXT\rHI\r\x1aCOPY A.TXT A.TXT\rDIRECTORY\rUNDELETE A.TXT\rDELETE A.TXT.2\rEXPUNGE\r";
 
-// The keys of the session that act, each behind the reply to the one before: how many keys there are with it, how many
-// bytes are shown with its echo, and the image behind it.
+// The keys of the session that act, each after the reply to the one before: how many keys there are with it, how many
+// bytes are shown with its echo, and the image after it.
 const ACTING: &str = "0 0 {HEAD}E{LF}
 20 26 {HEAD}F OPERATOR A.TXT.1 U 1 0 - 4{LF}HI{EOL}{LF}E{LF}
 37 78 {HEAD}F OPERATOR A.TXT.1 D 1 0 0 4{LF}HI{EOL}{LF}F OPERATOR A.TXT.2 U 1 0 - 4{LF}HI{EOL}{LF}E{LF}
@@ -37,7 +37,7 @@ impl Fault {
         }
     }
 
-    // What is shown behind a prefix of the whole run.
+    // What is shown after a prefix of the whole run.
     fn message(self) -> &'static [u8] {
         match self {
             Fault::Get => b"\r\n?Read fault\r\n",
@@ -49,7 +49,7 @@ impl Fault {
     // How many numbers cut the session short, where the outputs say it.
     fn count(self, whole: &Outcome) -> Option<usize> {
         match self {
-            // The get behind the last key finds that there is none.
+            // The get after the last key finds that there is none.
             Fault::Get => Some(SESSION.len() + 1),
             Fault::Screen => Some(whole.screen.bytes().len()),
             Fault::Log => Some(whole.log.bytes().len()),
@@ -74,8 +74,8 @@ fn session(runtime: &HostRuntime, fault: Option<Fault>, number: u32) -> Result<O
     outcome_of(runtime, &words_of(&["-w", "-n", "OUT"]), &given)
 }
 
-// The image behind the last key that acts with no more keys, and no more bytes shown, than these.
-fn image_behind(alloc: Global, keys: usize, shown: usize) -> Result<String, AllocError> {
+// The image after the last key that acts with no more keys, and no more bytes shown, than these.
+fn image_after(alloc: Global, keys: usize, shown: usize) -> Result<String, AllocError> {
     let mut said = String::new(alloc);
     for line in ACTING.lines() {
         if let Some(image) = reached(line, keys, shown) {
@@ -107,8 +107,8 @@ fn count_taken(keys: &mut MemSource) -> usize {
     0
 }
 
-// Whether a prefix of some bytes, with a message behind it, is this text.
-fn is_behind_a_prefix(text: &[u8], message: &[u8], whole: &[u8]) -> bool {
+// Whether a prefix of some bytes, with a message after it, is this text.
+fn is_after_a_prefix(text: &[u8], message: &[u8], whole: &[u8]) -> bool {
     match text.strip_suffix(message) {
         Some(prefix) => whole.starts_with(prefix),
         None => false,
@@ -117,7 +117,7 @@ fn is_behind_a_prefix(text: &[u8], message: &[u8], whole: &[u8]) -> bool {
 
 // Whether what was shown and logged is a prefix of what the whole session shows and logs.
 fn is_prefix(fault: Fault, outcome: &Outcome, whole: &Outcome) -> bool {
-    is_behind_a_prefix(
+    is_after_a_prefix(
         outcome.screen.bytes(),
         fault.message(),
         whole.screen.bytes(),
@@ -147,7 +147,7 @@ fn is_cut(
         Fault::Log => taken.saturating_sub(1),
         _ => taken,
     };
-    let image = image_behind(alloc, keys, outcome.screen.bytes().len())?;
+    let image = image_after(alloc, keys, outcome.screen.bytes().len())?;
     Ok(
         outcome.status == fault.status()
             && is_prefix(fault, outcome, whole)

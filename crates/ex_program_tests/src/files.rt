@@ -35,7 +35,7 @@ keys COPY TTY: *.TXT{CR}
 screen @COPY TTY: *.TXT{EOL}?File name is needed{EOL}@{EOL}
 log ..{LF}0d 15 D 0.1k4@0-4 1.0n0@5-5 2.0t@5-9 3.0n0@10-10 4.0o@10-15{LF}
 
-# No blank is needed behind TTY:, and each key of a file has its answer.
+# No blank is needed after TTY:, and each key of a file has its answer.
 clock 0
 keys COPY TTY:x{CR}{DEL}A{TAB}B{DEL}{LF}{DEL}{^U}{ESC}{^Z}
 screen @COPY TTY:x{EOL}{BEL}A B{RUB}{EOL}{BEL}{BEL}{BEL}^Z{EOL} TTY: => <OPERATOR>X..1 [OK]{EOL}@{EOL}

@@ -74,6 +74,7 @@ status WriteFault
 screen lines 1 re
 out none";
 
+// [summary]
 #[test]
 fn sums_up_a_generated_run(rt: HostRuntime) -> Result<(), Fail> {
     try_cases(&rt, SUMMARIES)

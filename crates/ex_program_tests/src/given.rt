@@ -7,7 +7,7 @@ use ex_program::{Status, Words, exec20};
 use std::marker::Brand;
 use std::sync::ledger::{Blank, Ledger};
 
-// What a run is given behind its words, and what of it fails. The moments are 1, 2, 3 and so on, or all 0.
+// What a run is given after its words, and what of it fails. The moments are 1, 2, 3 and so on, or all 0.
 #[derive(Clone, Copy)]
 pub struct Given<'a> {
     pub keys: &'a [u8],

@@ -237,12 +237,13 @@ screen ?Image is bad at 33: Range{EOL}
 out none
 left X";
 
+// [start-cause]
 #[test]
 fn begins_from_nothing_but_an_image(rt: HostRuntime) -> Result<(), Fail> {
     try_cases(&rt, BEGINS_FROM_NOTHING_BUT_AN_IMAGE)
 }
 
-const TELLS_WHERE_AN_IMAGE_GOES_WRONG: &str = "# A byte behind its end.
+const TELLS_WHERE_AN_IMAGE_GOES_WRONG: &str = "# A byte after its end.
 words IN,OUT
 in {HEAD}E{LF}X
 keys X
@@ -304,7 +305,7 @@ log ..{LF}
 out {HEAD}F OPERATOR A.TXT.1 U 1 0 - 0{LF}{LF}E{LF}";
 
 #[test]
-fn acts_behind_a_whole_echo(rt: HostRuntime) -> Result<(), Fail> {
+fn acts_after_a_whole_echo(rt: HostRuntime) -> Result<(), Fail> {
     try_cases(&rt, ACTS_BEHIND_A_WHOLE_ECHO)
 }
 

@@ -120,6 +120,7 @@ keys TAKE B.CMD{CR}
 screen @TAKE B.CMD{EOL}?Too many lines{EOL}@{EOL}
 out ..E{LF}";
 
+// [joined-line]
 #[test]
 fn counts_joined_lines_once(rt: HostRuntime) -> Result<(), Fail> {
     try_cases(&rt, COUNTS_JOINED_LINES_ONCE)

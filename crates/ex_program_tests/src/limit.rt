@@ -1,6 +1,6 @@
 // Runs with as many keys as a run takes.
 ghost use Rattle.std.specs.Prelude.{[], false};
-ghost use Rattle.cm_io.specs.Told.{Nothing};
+ghost use Rattle.cm_io.specs.Contents.{Nothing};
 
 use crate::given::{run_program, words_of};
 use cm_io::{Got, MemClock, MemHost, MemSink, NoMemory, Put, Sink, Source};
@@ -32,7 +32,7 @@ impl Source for Endless {
     }
 }
 
-// A screen that holds the bytes behind so many puts.
+// A screen that holds the bytes after so many puts.
 #[derive(Drop)]
 struct LateScreen {
     puts: u64,
@@ -40,11 +40,11 @@ struct LateScreen {
 }
 
 impl Sink for LateScreen {
-    ghost told = { λ _. Nothing };
+    ghost contents = { λ _. Nothing };
 
     ghost faults = { λ screen. screen.late.faults };
 
-    #[tactic(auto, using(cm_io::proofs::Additions::adds_nothing), unfolding(cm_io::specs::Told::add))]
+    #[tactic(auto, using(cm_io::proofs::Additions::adds_nothing), unfolding(cm_io::specs::Contents::add))]
     fn put(&mut self, bytes: &[u8]) -> Put {
         if self.puts > 0 {
             self.puts -= 1;
@@ -54,7 +54,7 @@ impl Sink for LateScreen {
     }
 }
 
-// Whether a run over endless keys, on a screen with so much room behind the prompt and a BEL for each key,
+// Whether a run over endless keys, on a screen with so much room after the prompt and a BEL for each key,
 // ends with this message.
 fn ends_with(runtime: &HostRuntime, room: u32, message: &[u8]) -> Result<bool, NoMemory> {
     let alloc = runtime.alloc();
@@ -84,6 +84,7 @@ fn ends_with(runtime: &HostRuntime, room: u32, message: &[u8]) -> Result<bool, N
     )
 }
 
+// [key-limit]
 #[test]
 fn takes_no_more_keys_than_its_limit(rt: HostRuntime) -> Result<(), Fail> {
     assert!(rt; ends_with(&rt, 32, b"\r\n?Too many keys\r\n")?);

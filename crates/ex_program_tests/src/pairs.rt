@@ -2,7 +2,7 @@
 // each of the host's.
 //
 // What must stand is the trace of the whole session, cut where a call fails. Screen and log fail in one put alone, and
-// would take what is put behind it.
+// would take what is put after it.
 use crate::given::{run_program, words_of};
 use cm_faults::{
     Failing, NOTHING, Part, PartSink, Stands, closing, has_image, is_written, push_text, stands_at,
@@ -19,7 +19,7 @@ const KEYS: &[u8] = b"EXP\rLOG\r";
 
 const INPUT: &str = "EXEC20 2|D OPERATOR 1|C OPERATOR|F OPERATOR A..1 D 1 0 - 1|x|E|";
 
-// Behind `act` is the image, with `/` between its writes.
+// After `act` is the image, with `/` between its writes.
 const TRACE: &str = "act EXEC20 2|/D OPERATOR 1|/C OPERATOR|/F OPERATOR A..1 D 1 0 - 1|/x/|/E|
 show @
 get
@@ -107,7 +107,7 @@ fn is_shown(outcome: &Outcome, wanted: &Stands) -> bool {
         && outcome.log.bytes() == wanted.log.as_slice()
 }
 
-// Whether the keys behind those that were taken are left, and IN is as it was.
+// Whether the keys after those that were taken are left, and IN is as it was.
 fn is_left(alloc: Global, outcome: &mut Outcome, gets: usize) -> Result<bool, AllocError> {
     let has_image = has_image(alloc, &outcome.host, INPUT)?;
     let left = count_left(&mut outcome.keys);
@@ -172,7 +172,7 @@ fn try_one(runtime: &HostRuntime, failing: &Failing, whole: &Outcome) -> Result<
     )))
 }
 
-// With each call of the host, and behind these with none.
+// With each call of the host, and after these with none.
 fn try_calls(runtime: &HostRuntime, failing: Failing, whole: &Outcome) -> Result<(), Fail> {
     for call in 0..CALLS {
         let both = Failing {

@@ -37,7 +37,7 @@ screen  Generations to keep: 7{EOL} Pages: 0{EOL}@{EOL}
 out EXEC20 2{LF}D OPERATOR 1{LF}D X 7{LF}C X{LF}E{LF}";
 
 #[test]
-fn builds_behind_its_subcommands(rt: HostRuntime) -> Result<(), Fail> {
+fn builds_after_its_subcommands(rt: HostRuntime) -> Result<(), Fail> {
     try_cases(&rt, BUILDS_BEHIND_ITS_SUBCOMMANDS)
 }
 
@@ -89,7 +89,7 @@ screen @BUILD <X>,{EOL}@@{255*A}{BEL}{255*~}GEN{RUB}{RUB}{RUB}{EOL}@{EOL}
 out EXEC20 2{LF}D OPERATOR 1{LF}D X 1{LF}C OPERATOR{LF}E{LF}";
 
 #[test]
-fn keeps_what_waits_behind_a_refusal(rt: HostRuntime) -> Result<(), Fail> {
+fn keeps_what_waits_after_a_refusal(rt: HostRuntime) -> Result<(), Fail> {
     try_cases(&rt, KEEPS_WHAT_WAITS_BEHIND_A_REFUSAL)
 }
 

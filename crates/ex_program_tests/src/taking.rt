@@ -12,7 +12,7 @@ keys TAKE L.CMD{CR}
 screen @TAKE L.CMD{EOL} EXEC20 1{EOL} EXEC20 1{EOL} EXEC20 1{EOL} EXEC20 1{EOL}?TAKE too deep{EOL}@{EOL}
 out {HEAD}F OPERATOR L.CMD.1 U 1 0 - 19{LF}INF VER{LF}TAKE L.CMD{LF}{LF}E{LF}
 
-# Behind the end of a file the one around it goes on.
+# After the end of a file the one around it goes on.
 words IN,OUT
 in {HEAD}F OPERATOR A.CMD.1 U 1 0 - 19{LF}TAKE B.CMD{LF}INF DIR{LF}{LF}
 in F OPERATOR B.CMD.1 U 1 0 - 8{LF}INF VER{LF}{LF}E{LF}
@@ -136,6 +136,7 @@ keys TAKE B.CMD{CR}
 screen @TAKE B.CMD{EOL}?Invalid line in command file{EOL}@{EOL}
 out {HEAD}F OPERATOR B.CMD.1 U 1 0 - 257{LF}{256*A}{LF}{LF}E{LF}";
 
+// [refused-line]
 #[test]
 fn stops_at_a_refusal(rt: HostRuntime) -> Result<(), Fail> {
     try_cases(&rt, STOPS_AT_A_REFUSAL)

@@ -30,6 +30,7 @@ keys A.B-C  {^W}{^W}{^W}{^W}
 screen @A.B-C  {RUB}{RUB}{RUB}{RUB}{RUB}{RUB}{RUB}{BEL}{EOL}
 log ..{LF}17 0 O{LF}17 0 O{LF}";
 
+// [run-trace]
 #[test]
 fn shows_the_prompt_and_the_end(rt: HostRuntime) -> Result<(), Fail> {
     try_cases(&rt, SHOWS_THE_PROMPT_AND_THE_END)
@@ -317,7 +318,7 @@ left INF VER{CR}
 acts 1";
 
 #[test]
-fn leaves_the_keys_behind_logout(rt: HostRuntime) -> Result<(), Fail> {
+fn leaves_the_keys_after_logout(rt: HostRuntime) -> Result<(), Fail> {
     try_cases(&rt, LEAVES_THE_KEYS_BEHIND_LOGOUT)
 }
 

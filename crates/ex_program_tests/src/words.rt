@@ -46,6 +46,7 @@ screen Usage: exec20 [-w] IN OUT | exec20 [-w] -n OUT | exec20 -g N{EOL}
 out none
 left LOG{CR}";
 
+// [usage]
 #[test]
 fn shows_the_usage_of_other_words(rt: HostRuntime) -> Result<(), Fail> {
     for words in OTHER.lines() {

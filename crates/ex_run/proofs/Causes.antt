@@ -1,9 +1,9 @@
--- When a run that stopped so and closed so comes to a status, by the counts of faults.
+-- When a run that stopped so and closed so ends with a status, by the counts of faults.
 -- A sum over the answers of a status has a catch-all: HostCause reduces at each status but HostFault, and by_or goes
 -- over a status that is one of two.
 use Rattle.std.proofs.Common.{◌≡◌, ℕ, Bool, true, false, List, Option, Some, Result, Ok, Err, refl, sym, ap, ◌∙◌, subst, inl, inr}
 use Rattle.cm_io.specs.Fault.{Rose}
-use Rattle.cm_io.specs.Told.{Told}
+use Rattle.cm_io.specs.Contents.{Contents}
 use Rattle.cm_run.specs.Cause.{Counts, RunCause, StopCause}
 use Rattle.cm_run.specs.declared.stop.Stop.{Stop}
 use Rattle.cm_run.specs.declared.stop.Stop.TheVariants as stop
@@ -19,7 +19,7 @@ pub by_or : (P : Status → Type 0) (result why : Status) → IsOr result why �
 by_or P result why (inl same) holds host = subst P (sym same) (holds same)
 by_or P result why (inr same) holds host = subst P (sym same) (host same)
 
--- what a run came to, by the counts
+-- the outcome of a run, by the counts
 cause_stays : (a b : Counts) → b ≡ a → (b.keys ≡ a.keys) × (b.log ≡ a.log)
 cause_stays a b same = (ap (λ (counts : Counts). counts.keys) same, ap (λ (counts : Counts). counts.log) same)
 
@@ -40,7 +40,7 @@ cause_unclosed a b screen same rose = (
 )
 
 -- the counts after a run that stopped so and closed so
-module _ (a b : Counts) (before now : Told) (screen : ℕ) (result : Status) (quiet : result ≡ status.Done → screen ≡ b.screen) where
+module _ (a b : Counts) (before now : Contents) (screen : ℕ) (result : Status) (quiet : result ≡ status.Done → screen ≡ b.screen) where
   abbrev last : Counts
   last = record b { screen = screen }
 
@@ -84,12 +84,12 @@ module _ (a b : Counts) (before now : Told) (screen : ℕ) (result : Status) (qu
       (λ _. (status.WriteFault, cause_unlogged a b screen cause))
 
 -- a run that closed so is past its first prompt
-ends_run : (ended : Bool) (before now : Told) (f g : ℕ) (result : Status) → Ends ended before now f g result → IsRun result
+ends_run : (ended : Bool) (before now : Contents) (f g : ℕ) (result : Status) → Ends ended before now f g result → IsRun result
 ends_run true before now f g result ends = by_or IsRun result status.Done ends.0 (λ _. tt) (λ _. tt)
 ends_run false before now f g result (inl ends) = by_or IsRun result status.Done ends.0 (λ _. tt) (λ _. tt)
 ends_run false before now f g result (inr ends) = by_or IsRun result status.WriteFault ends.0 (λ _. tt) (λ _. tt)
 
-pub closes_run : (why : Result Unit Stop) (ended : Bool) (before now : Told) (f g : ℕ) (result : Status) → Closes why ended before now f g result
+pub closes_run : (why : Result Unit Stop) (ended : Bool) (before now : Contents) (f g : ℕ) (result : Status) → Closes why ended before now f g result
     → IsRun result
 unfolding Closes
 closes_run (Ok value) ended before now f g result closes = ends_run ended before now f g result closes

@@ -7,7 +7,7 @@
 use Rattle.std.proofs.Common.{◌≡◌, ℕ, Bool, IsTrue, List, [], ◌++◌, refl, sym, ◌∙◌, subst, inl, inr}
 use Rattle.std.proofs.lemmas.List.{append_cancel_right}
 use Rattle.cm_lists.proofs.Pieces.{nil_of_append}
-use Rattle.cm_io.specs.Told.{Told}
+use Rattle.cm_io.specs.Contents.{Contents}
 use Rattle.cm_io.specs.declared.status.Status.{Status}
 use Rattle.cm_io.specs.declared.status.Status.TheVariants as status
 use Rattle.cm_run.specs.Keeping.{IsLineKeeping, KeepsLine}
@@ -31,7 +31,7 @@ use Rattle.ex_run.proofs.Causes.{early_causes, early_not_done, early_not_usage, 
 use Rattle.ex_run.proofs.Ends.{done_counted, done_logged, done_saved, done_shown}
 use Rattle.ex_run.proofs.QuietEnds.{quiet_done, quiet_limit}
 
-module _ {S : Type 0} (told : Telling) (o : Over S) (keeping : IsLineKeeping o.means) (form : Form) where
+module _ {S : Type 0} (known : Telling) (o : Over S) (keeping : IsLineKeeping o.means) (form : Form) where
   -- where no key was taken there is no beginning but this
   none_taken : (start : State) (moments before now taken rest : List ℕ) → now ≡ before → (taken ++ rest) ++ now ≡ before
       → KeepsLine feed Holds o.means (o.begins start) moments taken
@@ -42,33 +42,33 @@ module _ {S : Type 0} (told : Telling) (o : Over S) (keeping : IsLineKeeping o.m
       (run_keeps o.means keeping feed Holds screen_is_a_display (o.begins start) moments [] tt)
 
   -- past the first prompt
-  module _ (start : State) (a b : Scene) (before loaded now : Disk) (result : Status) (comes : Comes told o form start a b loaded now result)
+  module _ (start : State) (a b : Scene) (before loaded now : Disk) (result : Status) (comes : Comes known o form start a b loaded now result)
       (loads : IsLoaded form.input before loaded) (stays : loaded.faults ≡ before.faults)
       (began : Began before form.input start) where
     host_cause : HostCause before.faults now.faults result
     host_cause = subst (λ (count : ℕ). HostCause count now.faults result) stays comes.saves.cause
 
-    follows : Tell told → Follows o form start a b before now result
+    follows : Tell known → Follows o form start a b before now result
     follows tells = record {
-      shown = λ done. done_shown told o form start comes.left a b result comes.ran done tells;
-      logged = λ done. done_logged told o form start comes.left a b result comes.ran done tells;
-      counted = λ done. done_counted told o form start comes.left a b result comes.ran done tells;
-      saved = λ tell done. done_saved told o form start comes.left a b result comes.ran done loaded now tells
+      shown = λ done. done_shown known o form start comes.left a b result comes.ran done tells;
+      logged = λ done. done_logged known o form start comes.left a b result comes.ran done tells;
+      counted = λ done. done_counted known o form start comes.left a b result comes.ran done tells;
+      saved = λ tell done. done_saved known o form start comes.left a b result comes.ran done loaded now tells
           (subst (λ (it : Bool). IsTrue it) (sym loads.tells) tell) comes.saves;
       on_screen = λ taken rest all.
           run_keeps o.means keeping feed Holds screen_is_a_display (o.begins start) a.moments taken (comes.sound tells taken rest all);
     }
 
-    finishes : IsTrue told.keys → Finishes told o form start a b before now result
+    finishes : IsTrue known.keys → Finishes known o form start a b before now result
     finishes tells = record {
       complete = λ few quiet.
-          quiet_done told tells o form start comes.left a b before now result comes.ran comes.is_run comes.cause host_cause quiet few;
+          quiet_done known tells o form start comes.left a b before now result comes.ran comes.is_run comes.cause host_cause quiet few;
       limit = λ taken rest all count going quiet.
-          quiet_limit told tells o form start comes.left a b before now result comes.ran comes.is_run comes.cause host_cause quiet
+          quiet_limit known tells o form start comes.left a b before now result comes.ran comes.is_run comes.cause host_cause quiet
           (comes.leads tells) taken rest all count going;
     }
 
-    pub course_past : Course told o form a b before now result
+    pub course_past : Course known o form a b before now result
     course_past = record {
       stands = inr (record {
         start = start;
@@ -86,11 +86,11 @@ module _ {S : Type 0} (told : Telling) (o : Over S) (keeping : IsLineKeeping o.m
       follows = λ tells other starts.
           subst (λ (it : State). Follows o form it a b before now result) (one_start before form.input start other began starts) (follows tells);
       finishes = λ tells other starts.
-          subst (λ (it : State). Finishes told o form it a b before now result) (one_start before form.input start other began starts) (finishes tells);
+          subst (λ (it : State). Finishes known o form it a b before now result) (one_start before form.input start other began starts) (finishes tells);
     }
 
   -- before it
-  module _ (a : Scene) (screen : Told) (faults : ℕ) (before now : Disk) (why : Status) (early : IsEarly form.input why)
+  module _ (a : Scene) (screen : Contents) (faults : ℕ) (before now : Disk) (why : Status) (early : IsEarly form.input why)
       (cause : InputCause before form.input why) (host : HostCause before.faults now.faults why)
       (tried : Tried a.screen screen a.faults.screen faults [] (message why)) (loads : IsLoaded form.input before now) where
     abbrev b : Scene
@@ -108,14 +108,14 @@ module _ {S : Type 0} (told : Telling) (o : Over S) (keeping : IsLineKeeping o.m
       on_screen = λ taken rest all. none_taken start a.moments a.keys a.keys taken rest refl all;
     }
 
-    early_finishes : (start : State) → Starts before form.input start → Finishes told o form start a b before now why
+    early_finishes : (start : State) → Starts before form.input start → Finishes known o form start a b before now why
     early_finishes start starts = record {
       complete = λ few quiet. inr (early_memory before form.input start before.faults now.faults why early cause starts host quiet.host);
       limit = λ taken rest all count going quiet.
           inr (early_memory before form.input start before.faults now.faults why early cause starts host quiet.host);
     }
 
-    course_why : Course told o form a b before now why
+    course_why : Course known o form a b before now why
     course_why = record {
       stands = inl (early, record { screen = tried; rest = refl }, loads);
       unlogged = λ none. (refl, refl);
@@ -127,5 +127,5 @@ module _ {S : Type 0} (told : Telling) (o : Over S) (keeping : IsLineKeeping o.m
       finishes = λ tells start starts. early_finishes start starts;
     }
 
-    pub course_early : (result : Status) → result ≡ why → Course told o form a b before now result
-    course_early result same = subst (λ (it : Status). Course told o form a b before now it) (sym same) course_why
+    pub course_early : (result : Status) → result ≡ why → Course known o form a b before now result
+    course_early result same = subst (λ (it : Status). Course known o form a b before now it) (sym same) course_why

@@ -1,8 +1,8 @@
--- What the engine says of a run, and what its end comes to.
+-- What the engine says of a run, and the outcome of its end.
 -- How a run ends is a relation by cases on how it stopped (Closes), with one lemma a case. A clause without the
 -- premises stands apart (cause). What an object tells is one word (scene, disk_of).
 use Rattle.std.proofs.Common.{◌≡◌, ℕ, Bool, Result, refl, subst}
-use Rattle.cm_io.specs.Told.{Told}
+use Rattle.cm_io.specs.Contents.{Contents}
 use Rattle.cm_io.specs.declared.status.Status.{Status}
 use Rattle.cm_io.specs.declared.status.Status.TheVariants as status
 use Rattle.cm_run.specs.Cut.{Traces}
@@ -21,12 +21,12 @@ use Rattle.ex_run.specs.Runs.{Runs}
 use Rattle.ex_run.specs.Scene.{Scene, Telling, seen, with_screen}
 use Rattle.ex_run.proofs.Causes.{closes_causes, closes_run}
 
-module _ {S : Type 0} (told : Telling) (o : Over S) (form : Form) (start : State) (app left : S) (a at : Scene) (stop : Result Unit Stop)
-    (begins : app ≡ o.begins start) (runs : Runs o.means form.logs told app left a at stop) where
-  pub comes : (screen : Told) (faults : ℕ) (ended : Bool) (state : State) (before now : Disk) (result : Status)
+module _ {S : Type 0} (known : Telling) (o : Over S) (form : Form) (start : State) (app left : S) (a at : Scene) (stop : Result Unit Stop)
+    (begins : app ≡ o.begins start) (runs : Runs o.means form.logs known app left a at stop) where
+  pub comes : (screen : Contents) (faults : ℕ) (ended : Bool) (state : State) (before now : Disk) (result : Status)
       → ended ≡ has_ended o left → state ≡ o.store_of left → Closes stop ended at.screen screen at.faults.screen faults result
       → (result ≡ status.Done → faults ≡ at.faults.screen) → Saves before now form.out state result
-      → Comes told o form start a (with_screen at screen faults) before now result
+      → Comes known o form start a (with_screen at screen faults) before now result
   comes screen faults ended state before now result ends stores closes quiet saves = record {
     left = left;
     ran = record {
@@ -39,7 +39,7 @@ module _ {S : Type 0} (told : Telling) (o : Over S) (form : Form) (start : State
       closes = subst (λ (it : Bool). Closes stop it at.screen screen at.faults.screen faults result) ends closes;
       rest = refl;
     };
-    leads = λ tells went. subst (λ (it : S). RunsTo o.means it left a.keys at.keys) begins (runs.leads tells went);
+    leads = λ tells outcome. subst (λ (it : S). RunsTo o.means it left a.keys at.keys) begins (runs.leads tells outcome);
     saves = subst (λ (it : State). Saves before now form.out it result) stores saves;
     cause = closes_causes a.faults at.faults at.screen screen faults result quiet stop ended runs.cause closes;
     is_run = closes_run stop ended at.screen screen at.faults.screen faults result closes;

@@ -1,12 +1,12 @@
 -- How a run ends where nothing outside failed.
 use Rattle.std.proofs.Common.{◌≡◌, ◌⊎◌, ℕ, ◌+◌, ◌<◌, ◌≤◌, IsTrue, Bool, true, false, List, [], ◌∷◌, ◌++◌, length, Result, Ok, Err, refl, sym, ap, ◌∙◌, subst, inl, inr, arith, length-append}
 use Rattle.std.proofs.lemmas.List.{nil_from_length}
-use Rattle.cm_io.specs.Told.{Told}
+use Rattle.cm_io.specs.Contents.{Contents}
 use Rattle.cm_run.specs.Cause.{Counts, KeyCount, OverCount}
 use Rattle.cm_run.specs.Cut.{Traces}
-use Rattle.cm_run.specs.Event.{Event, keys_of, state_behind}
+use Rattle.cm_run.specs.Event.{Event, keys_of, state_after}
 use Rattle.cm_run.specs.Moments.{RunsTo}
-use Rattle.cm_run.specs.Observed.{Between, Observed, Performs}
+use Rattle.cm_run.specs.Observation.{Between, Observation, Performs}
 use Rattle.cm_run.specs.Progress.{progress}
 use Rattle.cm_run.specs.Trace.{RunState, keys_trace, starting}
 use Rattle.cm_run.specs.declared.stop.Stop.{Stop}
@@ -30,7 +30,7 @@ use Rattle.ex_run.specs.Course.{AreQuiet, Ran}
 use Rattle.ex_run.specs.declared.program.TheConstants.{KEY_LIMIT}
 use Rattle.ex_run.proofs.Ends.{closes_done, is_not}
 
--- it is Done, or was halted by the limit of keys, or memory was wanting
+-- it is Done, or was halted by the limit of keys, or memory ran out
 abbrev IsQuietEnd : Status → Type 0
 IsQuietEnd result = (result ≡ status.Done) ⊎ (result ≡ status.KeyLimit) ⊎ (result ≡ status.NoMemory)
 
@@ -51,7 +51,7 @@ module _ (f g : Counts) (h k : ℕ) (screen : IsQuiet f.screen g.screen) (log : 
   quiet_end result run cause host_cause = absurd run
 
 -- a run that closed as KeyLimit was cut short by the limit
-ends_limit : (ended : Bool) (before now : Told) (f g : ℕ) (result : Status) → Ends ended before now f g result → result ≡ status.KeyLimit → ⊥
+ends_limit : (ended : Bool) (before now : Contents) (f g : ℕ) (result : Status) → Ends ended before now f g result → result ≡ status.KeyLimit → ⊥
 ends_limit true before now f g result ends is =
     is_not result status.Done status.KeyLimit ends.0 is (λ (same : status.Done ≡ status.KeyLimit). cc) (λ (same : status.HostFault ≡ status.KeyLimit). cc)
 ends_limit false before now f g result (inl ends) is =
@@ -59,7 +59,7 @@ ends_limit false before now f g result (inl ends) is =
 ends_limit false before now f g result (inr ends) is =
     is_not result status.WriteFault status.KeyLimit ends.0 is (λ (same : status.WriteFault ≡ status.KeyLimit). cc) (λ (same : status.HostFault ≡ status.KeyLimit). cc)
 
-closes_limit : (why : Result Unit Stop) (ended : Bool) (before now : Told) (f g : ℕ) (result : Status) → Closes why ended before now f g result
+closes_limit : (why : Result Unit Stop) (ended : Bool) (before now : Contents) (f g : ℕ) (result : Status) → Closes why ended before now f g result
     → result ≡ status.KeyLimit → why ≡ Err stop.Limit
 unfolding Closes
 closes_limit (Ok value) ended before now f g result closes is = absurd (ends_limit ended before now f g result closes is)
@@ -73,8 +73,8 @@ closes_limit (Err stop.Screen) ended before now f g result closes is =
 closes_limit (Err stop.Log) ended before now f g result closes is =
     absurd (is_not result status.WriteFault status.KeyLimit closes.0 is (λ (same : status.WriteFault ≡ status.KeyLimit). cc) (λ (same : status.HostFault ≡ status.KeyLimit). cc))
 
--- one that closed as NoMemory was for want of memory
-ends_memory : (ended : Bool) (before now : Told) (f g : ℕ) (result : Status) → Ends ended before now f g result → result ≡ status.NoMemory → ⊥
+-- one that closed as NoMemory was for lack of memory
+ends_memory : (ended : Bool) (before now : Contents) (f g : ℕ) (result : Status) → Ends ended before now f g result → result ≡ status.NoMemory → ⊥
 ends_memory true before now f g result ends is =
     is_not result status.Done status.NoMemory ends.0 is (λ (same : status.Done ≡ status.NoMemory). cc) (λ (same : status.HostFault ≡ status.NoMemory). cc)
 ends_memory false before now f g result (inl ends) is =
@@ -82,7 +82,7 @@ ends_memory false before now f g result (inl ends) is =
 ends_memory false before now f g result (inr ends) is =
     is_not result status.WriteFault status.NoMemory ends.0 is (λ (same : status.WriteFault ≡ status.NoMemory). cc) (λ (same : status.HostFault ≡ status.NoMemory). cc)
 
-pub closes_memory : (why : Result Unit Stop) (ended : Bool) (before now : Told) (f g : ℕ) (result : Status) → Closes why ended before now f g result
+pub closes_memory : (why : Result Unit Stop) (ended : Bool) (before now : Contents) (f g : ℕ) (result : Status) → Closes why ended before now f g result
     → result ≡ status.NoMemory → why ≡ Err stop.Memory
 unfolding Closes
 closes_memory (Ok value) ended before now f g result closes is = absurd (ends_memory ended before now f g result closes is)
@@ -107,16 +107,16 @@ module _ {S : Type 0} (o : Over S) (logging : Bool) (start : State) (moments tak
   events keys = trace_of o logging start moments keys
 
   ended_over : (next : RunState S) → has_ended o next.state ≡ false
-      → left ≡ state_behind next.state (keys_trace o.means logging next rest) → has_ended o left ≡ true
+      → left ≡ state_after next.state (keys_trace o.means logging next rest) → has_ended o left ≡ true
       → length (keys_of (keys_trace o.means logging next rest)) ≡ 0 → ⊥
   ended_over next going leads ended none = by rest leads none where
-    by : (behind : List ℕ) → left ≡ state_behind next.state (keys_trace o.means logging next behind)
-        → length (keys_of (keys_trace o.means logging next behind)) ≡ 0 → ⊥
+    by : (after : List ℕ) → left ≡ state_after next.state (keys_trace o.means logging next after)
+        → length (keys_of (keys_trace o.means logging next after)) ≡ 0 → ⊥
     by [] leads none = let both : true ≡ false = sym ended ∙ ap (λ (it : S). has_ended o it) leads ∙ going in cc
     by (key ∷ keys) leads none = let empty = nil_from_length (keys_of (keys_trace o.means logging next (key ∷ keys))) none in cc
 
   not_over_by : (more : List ℕ) → length taken ≡ KEY_LIMIT → GoesOn o.means logging (o.begins start) (events (taken ++ rest)) taken rest
-      → keys_of (events (taken ++ rest)) ++ more ≡ taken ++ rest → left ≡ state_behind (o.begins start) (events (taken ++ rest))
+      → keys_of (events (taken ++ rest)) ++ more ≡ taken ++ rest → left ≡ state_after (o.begins start) (events (taken ++ rest))
       → (ended : Bool) → has_ended o left ≡ ended → KeyCount KEY_LIMIT (length (taken ++ rest)) (length more) ended (Ok tt) → ⊥
   unfolding KeyCount
   not_over_by more limit on keys leads false is count =
@@ -145,24 +145,24 @@ module _ {S : Type 0} (o : Over S) (logging : Bool) (start : State) (moments tak
 
   not_over : (all more : List ℕ) → taken ++ rest ≡ all → length taken ≡ KEY_LIMIT
       → has_ended o (left_of o logging start moments taken) ≡ false → keys_of (events all) ++ more ≡ all
-      → left ≡ state_behind (o.begins start) (events all)
+      → left ≡ state_after (o.begins start) (events all)
       → KeyCount KEY_LIMIT (length all) (length more) (has_ended o left) (Ok tt) → ⊥
   not_over all more joined limit going keys leads count =
       not_over_by more limit
       (runs_on o.means logging (o.begins start) moments taken rest going)
       (subst (λ (it : List ℕ). keys_of (events it) ++ more ≡ it) (sym joined) keys)
-      (subst (λ (it : List ℕ). left ≡ state_behind (o.begins start) (events it)) (sym joined) leads)
+      (subst (λ (it : List ℕ). left ≡ state_after (o.begins start) (events it)) (sym joined) leads)
       (has_ended o left) refl
       (subst (λ (it : List ℕ). KeyCount KEY_LIMIT (length it) (length more) (has_ended o left) (Ok tt)) (sym joined) count)
 
 -- nor did it end over the keys that were taken, where it has not over as many as it takes
-more_behind : (first behind taken rest : List ℕ) → first ++ behind ≡ taken ++ rest → length first ≤ length taken → (more : List ℕ) × (taken ≡ first ++ more)
-more_behind [] behind taken rest joined few = (taken, refl)
-more_behind (key ∷ first) behind [] rest joined few = absurd (omega (arith, few))
-more_behind (key ∷ first) behind (other ∷ taken) rest joined few =
+more_after : (first after taken rest : List ℕ) → first ++ after ≡ taken ++ rest → length first ≤ length taken → (more : List ℕ) × (taken ≡ first ++ more)
+more_after [] after taken rest joined few = (taken, refl)
+more_after (key ∷ first) after [] rest joined few = absurd (omega (arith, few))
+more_after (key ∷ first) after (other ∷ taken) rest joined few =
     let same : key ≡ other = cc in
-    let tails : first ++ behind ≡ taken ++ rest = cc in
-    let found = more_behind first behind taken rest tails (omega (arith, few)) in
+    let tails : first ++ after ≡ taken ++ rest = cc in
+    let found = more_after first after taken rest tails (omega (arith, few)) in
     (found.0, ap (λ keys. other ∷ keys) found.1 ∙ ap (λ it. it ∷ (first ++ found.0)) (sym same))
 
 module _ {S : Type 0} (o : Over S) (logging : Bool) (start : State) (taken rest : List ℕ) (left : S) where
@@ -187,17 +187,17 @@ module _ {S : Type 0} (o : Over S) (logging : Bool) (start : State) (taken rest 
     by true is few =
         let sizes = length-append run.keys last in
         let whole = ap length run.joined in
-        let found = more_behind run.keys last taken rest (run.joined ∙ sym joined) (omega (arith, few, many, sizes, whole)) in
+        let found = more_after run.keys last taken rest (run.joined ∙ sym joined) (omega (arith, few, many, sizes, whole)) in
         let over : has_ended o (left_of o logging start run.moments taken) ≡ true = stays_over run.moments run.keys found.0 run.leads is found.1 in
         let both : true ≡ false = sym over ∙ going in cc
 
-performed : {S : Type 0} (before now : Observed S) (events : List (Event S)) → Traces before now events (Ok tt) → Between before now events
+performed : {S : Type 0} (before now : Observation S) (events : List (Event S)) → Traces before now events (Ok tt) → Between before now events
 unfolding Traces Performs
 performed before now events traces = traces
 
 -- a run of which the keys tell
-module _ {S : Type 0} (told : Telling) (tells : IsTrue told.keys) (o : Over S) (form : Form) (start : State) (left : S) (a b : Scene) (before now : Disk)
-    (result : Status) (ran : Ran told o form start left a b result) (run : IsRun result) (cause : StatusCause a.faults b.faults result)
+module _ {S : Type 0} (known : Telling) (tells : IsTrue known.keys) (o : Over S) (form : Form) (start : State) (left : S) (a b : Scene) (before now : Disk)
+    (result : Status) (ran : Ran known o form start left a b result) (run : IsRun result) (cause : StatusCause a.faults b.faults result)
     (host_cause : HostCause before.faults now.faults result) (quiet : AreQuiet a b before now) where
   ends : IsQuietEnd result
   ends = quiet_end a.faults b.faults before.faults now.faults quiet.screen quiet.log quiet.keys quiet.host result run cause host_cause
@@ -231,16 +231,16 @@ module _ {S : Type 0} (told : Telling) (tells : IsTrue told.keys) (o : Over S) (
 
   pub quiet_limit : (leads : ran.stop ≡ Ok tt → RunsTo o.means (o.begins start) left a.keys ran.at.keys) (taken rest : List ℕ)
       → taken ++ rest ≡ a.keys → length taken ≡ KEY_LIMIT
-      → ((moments : List ℕ) → (IsTrue told.clock → moments ≡ a.moments) → has_ended o (left_of o form.logs start moments taken) ≡ false)
+      → ((moments : List ℕ) → (IsTrue known.clock → moments ≡ a.moments) → has_ended o (left_of o form.logs start moments taken) ≡ false)
       → (result ≡ status.KeyLimit) ⊎ (result ≡ status.NoMemory)
-  quiet_limit leads taken rest all many going = by told.clock refl where
-    by : (clock : Bool) → told.clock ≡ clock → (result ≡ status.KeyLimit) ⊎ (result ≡ status.NoMemory)
-    by true is = halted (λ went count.
+  quiet_limit leads taken rest all many going = by known.clock refl where
+    by : (clock : Bool) → known.clock ≡ clock → (result ≡ status.KeyLimit) ⊎ (result ≡ status.NoMemory)
+    by true is = halted (λ outcome count.
         let traces = subst (λ (why : Result Unit Stop). Traces (seen a (o.begins start)) (seen ran.at left) (trace_of o form.logs start a.moments a.keys) why)
-        went (ran.traces (tells, is)) in
+        outcome (ran.traces (tells, is)) in
         let between = performed (seen a (o.begins start)) (seen ran.at left) (trace_of o form.logs start a.moments a.keys) traces in
         not_over o form.logs start a.moments taken rest left a.keys ran.at.keys all many (going a.moments (λ tell. refl)) between.keys between.state count)
-    by false is = halted (λ went count.
-        let run = leads went in
+    by false is = halted (λ outcome count.
+        let run = leads outcome in
         not_run_over o form.logs start taken rest left a.keys ran.at.keys all many run
         (going run.moments (λ tell. let both : true ≡ false = sym tell ∙ is in absurd (cc))) count)

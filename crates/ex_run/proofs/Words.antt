@@ -9,9 +9,9 @@ use Rattle.ex_run.specs.Course.{Course, Finishes, Follows, Heads, StartCause, lo
 use Rattle.ex_run.specs.Over.{Over}
 use Rattle.ex_run.specs.Scene.{Scene, Telling}
 
-module _ {S : Type 0} (told : Telling) (o : Over S) (asked : Option Form) (form : Form) (a b : Scene) (before now : Disk) (result : Status)
-    (is : Some form ≡ asked) (course : Course told o form a b before now result) where
-  pub heads : Heads told o asked a b before now result
+module _ {S : Type 0} (known : Telling) (o : Over S) (asked : Option Form) (form : Form) (a b : Scene) (before now : Disk) (result : Status)
+    (is : Some form ≡ asked) (course : Course known o form a b before now result) where
+  pub heads : Heads known o asked a b before now result
   heads = record {
     unlogged = λ none. course.unlogged (ap (λ (it : Option Form). logs it) is ∙ none);
     cause = course.cause;
@@ -23,6 +23,6 @@ module _ {S : Type 0} (told : Telling) (o : Over S) (asked : Option Form) (form 
         (course.follows tells start (subst (λ (it : Form). Starts before it.input start) (sym same) asks.1));
     finishes = λ tells other start asks.
         let same = one_some asked form other is asks.0 in
-        subst (λ (it : Form). Finishes told o it start a b before now result) same
+        subst (λ (it : Form). Finishes known o it start a b before now result) same
         (course.finishes tells start (subst (λ (it : Form). Starts before it.input start) (sym same) asks.1));
   }

@@ -5,7 +5,7 @@ use Rattle.cm_io.specs.declared.status.Status.{Status}
 use Rattle.cm_io.specs.declared.status.Status.TheVariants as status
 use Rattle.cm_run.specs.Cause.{Counts}
 
--- what the run came to, also where a fault of the host took its place; the screen may have failed later, at
+-- the outcome of the run, also where a fault of the host took its place; the screen may have failed later, at
 -- the message
 abbrev pub EndCause : Counts → Counts → Status → Type 0
 EndCause a b status.Done = (b.keys ≡ a.keys) × (b.log ≡ a.log)

@@ -1,7 +1,7 @@
 -- What the end of a run shows, by how it stopped.
 use Rattle.std.specs.Prelude.{◌≡◌, ◌⊎◌, ℕ, Bool, true, false, [], ◌++◌, Result, Ok, Err}
-use Rattle.cm_text.specs.Shown.{end_of_line}
-use Rattle.cm_io.specs.Told.{Told, AddsPart}
+use Rattle.cm_text.specs.ScreenBytes.{end_of_line}
+use Rattle.cm_io.specs.Contents.{Contents, AddsPart}
 use Rattle.cm_io.specs.Fault.{Rose}
 use Rattle.cm_run.specs.declared.stop.Stop.{Stop}
 use Rattle.cm_run.specs.declared.stop.Stop.TheVariants as stop
@@ -13,15 +13,16 @@ use Rattle.cm_io.specs.declared.status.Status.TheVariants as status
 
 -- the application has ended the run, or the keys were read to their end: then the line that is open is ended, which may
 -- fail
-abbrev pub Ends : Bool → Told → Told → ℕ → ℕ → Status → Type 0
+abbrev pub Ends : Bool → Contents → Contents → ℕ → ℕ → Status → Type 0
 Ends true before now f g result = IsOr result status.Done × Tried before now f g [] (message result)
 Ends false before now f g result =
     (IsOr result status.Done × Tried before now f g end_of_line (message result))
     ⊎ (IsOr result status.WriteFault × AddsPart before now end_of_line × Rose f g)
 
--- a run that stopped so comes to this status, or to HostFault in its place: the message is shown, on a line of its own;
--- a screen that failed is given no more
-unfoldable pub Closes : Result Unit Stop → Bool → Told → Told → ℕ → ℕ → Status → Type 0
+-- [close]
+-- a run that stopped so ends with this status, or with HostFault in its place: the message is shown, on a line of its
+-- own; a screen that failed is given no more
+unfoldable pub Closes : Result Unit Stop → Bool → Contents → Contents → ℕ → ℕ → Status → Type 0
 Closes (Ok value) ended before now f g result = Ends ended before now f g result
 Closes (Err stop.Keys) ended before now f g result =
     IsOr result status.ReadFault × Tried before now f g [] (end_of_line ++ message result)

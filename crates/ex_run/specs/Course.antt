@@ -1,6 +1,6 @@
 -- All that is known of a run over a store.
 use Rattle.std.specs.Prelude.{◌≡◌, ◌⊎◌, ◌<◌, ◌+◌, ℕ, Bool, false, List, [], ◌++◌, length, Option, Some, None, IsTrue, Result, Ok}
-use Rattle.cm_io.specs.Told.{add}
+use Rattle.cm_io.specs.Contents.{add}
 use Rattle.cm_io.specs.declared.status.Status.{Status}
 use Rattle.cm_io.specs.declared.status.Status.TheVariants as status
 use Rattle.cm_run.specs.Cause.{KeyCount, RunCause}
@@ -46,37 +46,37 @@ pub record AreQuiet (a b : Scene) (before now : Disk) : Type 0 where
 
 module _ {S : Type 0} where
   -- past it the run stopped so, and what was observed then is its trace, or a cut of it, as far as keys and clock tell;
-  -- behind that nothing but the screen is touched, which shows how the run is closed
-  pub record Ran (told : Telling) (o : Over S) (form : Form) (start : State) (left : S) (a b : Scene) (result : Status)
+  -- after that nothing but the screen is touched, which shows how the run is closed
+  pub record Ran (known : Telling) (o : Over S) (form : Form) (start : State) (left : S) (a b : Scene) (result : Status)
       : Type 0 where
     pub stop : Result Unit Stop
     pub at : Scene
-    pub traces : Tell told
+    pub traces : Tell known
         → Traces (seen a (o.begins start)) (seen at left) (trace_of o form.logs start a.moments a.keys) stop
-    pub count : IsTrue told.keys → KeyCount KEY_LIMIT (length a.keys) (length at.keys) (has_ended o left) stop
+    pub count : IsTrue known.keys → KeyCount KEY_LIMIT (length a.keys) (length at.keys) (has_ended o left) stop
     pub cause : RunCause a.faults at.faults stop
     pub closes : Closes stop (has_ended o left) at.screen b.screen at.faults.screen b.faults.screen result
     pub rest : b ≡ with_screen at b.screen b.faults.screen
 
   -- the run began in a state, and the image of the state that it left is written
-  pub record Past (told : Telling) (o : Over S) (form : Form) (a b : Scene) (before now : Disk) (result : Status)
+  pub record Past (known : Telling) (o : Over S) (form : Form) (a b : Scene) (before now : Disk) (result : Status)
       : Type 0 where
     pub start : State
     pub left : S
     pub loaded : Disk
     pub begins : IsLoaded form.input before loaded × (loaded.faults ≡ before.faults) × Began before form.input start
-    pub ran : Ran told o form start left a b result
+    pub ran : Ran known o form start left a b result
     pub saves : Saves loaded now form.out (o.store_of left) result
 
   -- what stands at the end of what was asked for so
   abbrev pub StandsBy : Telling → Over S → Form → Scene → Scene → Disk → Disk → Status → Type 0
-  StandsBy told o form a b before now result =
+  StandsBy known o form a b before now result =
       (IsEarly form.input result × Refused a b result × IsLoaded form.input before now)
-      ⊎ Past told o form a b before now result
+      ⊎ Past known o form a b before now result
 
   -- of a run that is to begin over a store in this state, keys and clock telling. Where it is Done, the screen was
   -- given what the run over all keys shows, the log what it logs, the counter has risen by what all trials cost, and
-  -- OUT holds the image of the state that the keys leave. Behind each beginning of the keys taken the screen shows
+  -- OUT holds the image of the state that the keys leave. After each beginning of the keys taken the screen shows
   -- prompt and line
   pub record Follows (o : Over S) (form : Form) (start : State) (a b : Scene) (before now : Disk) (result : Status)
       : Type 0 where
@@ -91,43 +91,43 @@ module _ {S : Type 0} where
         → KeepsLine feed Holds o.means (o.begins start) a.moments taken
 
   -- of one of which the keys tell, where nothing outside failed: it is Done, or at the limit of keys KeyLimit, but for
-  -- want of memory. At the limit it is where the application has not ended it over so many keys, at the moments that a
+  -- lack of memory. At the limit it is where the application has not ended it over so many keys, at the moments that a
   -- clock tells, or whatever the moments are
-  pub record Finishes (told : Telling) (o : Over S) (form : Form) (start : State) (a b : Scene) (before now : Disk)
+  pub record Finishes (known : Telling) (o : Over S) (form : Form) (start : State) (a b : Scene) (before now : Disk)
       (result : Status) : Type 0 where
     pub complete : length a.keys < KEY_LIMIT → AreQuiet a b before now
         → (result ≡ status.Done) ⊎ (result ≡ status.NoMemory)
     pub limit : (taken rest : List ℕ) → taken ++ rest ≡ a.keys → length taken ≡ KEY_LIMIT
-        → ((moments : List ℕ) → (IsTrue told.clock → moments ≡ a.moments)
+        → ((moments : List ℕ) → (IsTrue known.clock → moments ≡ a.moments)
         → has_ended o (left_of o form.logs start moments taken) ≡ false) → AreQuiet a b before now
         → (result ≡ status.KeyLimit) ⊎ (result ≡ status.NoMemory)
 
   -- all that is known of the run that a form asks for: what stands, whatever the status; that nothing is asked of a log
   -- without one; when each status may come; and what follows where it is to begin in a state
-  pub record Course (told : Telling) (o : Over S) (form : Form) (a b : Scene) (before now : Disk) (result : Status)
+  pub record Course (known : Telling) (o : Over S) (form : Form) (a b : Scene) (before now : Disk) (result : Status)
       : Type 0 where
-    pub stands : StandsBy told o form a b before now result
+    pub stands : StandsBy known o form a b before now result
     pub unlogged : form.logs ≡ false → (b.log ≡ a.log) × (b.faults.log ≡ a.faults.log)
     pub usage : result ≡ status.Usage → ⊥
     pub cause : StatusCause a.faults b.faults result
     pub host_cause : HostCause before.faults now.faults result
     pub start : InputCause before form.input result
-    pub follows : Tell told → (start : State) → Starts before form.input start
+    pub follows : Tell known → (start : State) → Starts before form.input start
         → Follows o form start a b before now result
-    pub finishes : IsTrue told.keys → (start : State) → Starts before form.input start
-        → Finishes told o form start a b before now result
+    pub finishes : IsTrue known.keys → (start : State) → Starts before form.input start
+        → Finishes known o form start a b before now result
 
   -- and of the run over a store alone, from the first prompt on
-  pub record Comes (told : Telling) (o : Over S) (form : Form) (start : State) (a b : Scene) (before now : Disk)
+  pub record Comes (known : Telling) (o : Over S) (form : Form) (start : State) (a b : Scene) (before now : Disk)
       (result : Status) : Type 0 where
     pub left : S
-    pub ran : Ran told o form start left a b result
-    pub leads : IsTrue told.keys → ran.stop ≡ Ok tt → RunsTo o.means (o.begins start) left a.keys ran.at.keys
+    pub ran : Ran known o form start left a b result
+    pub leads : IsTrue known.keys → ran.stop ≡ Ok tt → RunsTo o.means (o.begins start) left a.keys ran.at.keys
     pub saves : Saves before now form.out (o.store_of left) result
     pub cause : StatusCause a.faults b.faults result
     pub is_run : IsRun result
     pub unlogged : form.logs ≡ false → (b.log ≡ a.log) × (b.faults.log ≡ a.faults.log)
-    pub sound : Tell told → (first rest : List ℕ) → (first ++ rest) ++ b.keys ≡ a.keys
+    pub sound : Tell known → (first rest : List ℕ) → (first ++ rest) ++ b.keys ≡ a.keys
         → MeetSound o.means (starting o.means (o.begins start) a.moments) first
 
 -- what the words ask for, under which a run begins in this state
@@ -146,13 +146,13 @@ StartCause disk (Some form) result = InputCause disk form.input result
 
 module _ {S : Type 0} where
   -- all that is known by the words alone, whatever they ask for
-  pub record Heads (told : Telling) (o : Over S) (asked : Option Form) (a b : Scene) (before now : Disk)
+  pub record Heads (known : Telling) (o : Over S) (asked : Option Form) (a b : Scene) (before now : Disk)
       (result : Status) : Type 0 where
     pub unlogged : logs asked ≡ false → (b.log ≡ a.log) × (b.faults.log ≡ a.faults.log)
     pub cause : StatusCause a.faults b.faults result
     pub host_cause : HostCause before.faults now.faults result
     pub start : StartCause before asked result
-    pub follows : Tell told → (form : Form) → (start : State) → Asks asked before form start
+    pub follows : Tell known → (form : Form) → (start : State) → Asks asked before form start
         → Follows o form start a b before now result
-    pub finishes : IsTrue told.keys → (form : Form) → (start : State) → Asks asked before form start
-        → Finishes told o form start a b before now result
+    pub finishes : IsTrue known.keys → (form : Form) → (start : State) → Asks asked before form start
+        → Finishes known o form start a b before now result

@@ -1,17 +1,17 @@
 -- What the objects outside tell at one moment, and the counter of trials.
 use Rattle.std.specs.Prelude.{ℕ, Bool, List, IsTrue}
-use Rattle.cm_io.specs.Told.{Nothing, Told}
+use Rattle.cm_io.specs.Contents.{Contents, Nothing}
 use Rattle.cm_io.specs.declared.clock.Clock
 use Rattle.cm_io.specs.declared.sink.Sink
 use Rattle.cm_io.specs.declared.source.Source
 use Rattle.cm_run.specs.Cause.{Counts, counts}
-use Rattle.cm_run.specs.Observed.{Observed, observed}
+use Rattle.cm_run.specs.Observation.{Observation, observation}
 
 -- the screen and the log; the keys that are left, and how often they were asked for; the moments to come; the counter;
 -- and how often each has failed
 pub record Scene : Type 0 where
-  pub screen : Told
-  pub log : Told
+  pub screen : Contents
+  pub log : Contents
   pub keys : List ℕ
   pub gets : ℕ
   pub moments : List ℕ
@@ -21,8 +21,8 @@ pub record Scene : Type 0 where
 abbrev pub scene : {S W K C : Type 0} → Sink.Ghosts S → S → Sink.Ghosts W → W → Source.Ghosts K → K
     → Clock.Ghosts C → C → ℕ → Scene
 scene s screen w log k keys c clock trials = record {
-  screen = s.told screen;
-  log = w.told log;
+  screen = s.contents screen;
+  log = w.contents log;
   keys = k.left keys;
   gets = k.gets keys;
   moments = c.left clock;
@@ -33,7 +33,7 @@ scene s screen w log k keys c clock trials = record {
 -- the same where there is no log
 abbrev pub unlogged_scene : {S K C : Type 0} → Sink.Ghosts S → S → Source.Ghosts K → K → Clock.Ghosts C → C → ℕ → Scene
 unlogged_scene s screen k keys c clock trials = record {
-  screen = s.told screen;
+  screen = s.contents screen;
   log = Nothing;
   keys = k.left keys;
   gets = k.gets keys;
@@ -52,12 +52,12 @@ telling keys clock = record { keys = keys; clock = clock }
 
 -- both do
 abbrev pub Tell : Telling → Type 0
-Tell told = IsTrue told.keys × IsTrue told.clock
+Tell known = IsTrue known.keys × IsTrue known.clock
 
 -- what is observed where an application is in this state
-abbrev pub seen : {S : Type 0} → Scene → S → Observed S
-seen at state = observed at.screen at.log at.keys at.gets at.moments at.trials state
+abbrev pub seen : {S : Type 0} → Scene → S → Observation S
+seen at state = observation at.screen at.log at.keys at.gets at.moments at.trials state
 
 -- the screen alone has changed
-abbrev pub with_screen : Scene → Told → ℕ → Scene
+abbrev pub with_screen : Scene → Contents → ℕ → Scene
 with_screen at screen faults = record at { screen = screen; faults = record at.faults { screen = faults } }

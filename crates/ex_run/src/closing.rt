@@ -1,6 +1,6 @@
 // The end of a run is closed: the image is written, and the message of the status is shown.
 ghost use Rattle.std.specs.Prelude.{◌≡◌, ◌++◌, [], false};
-ghost use Rattle.cm_text.specs.Shown.{end_of_line};
+ghost use Rattle.cm_text.specs.ScreenBytes.{end_of_line};
 ghost use Rattle.ex_system.specs.Disk.{disk_of};
 ghost use Rattle.ex_system.specs.Messages.{message};
 ghost use Rattle.ex_system.specs.Saving.{IsEnd, IsOr, Saves};
@@ -24,7 +24,7 @@ fn halt<H: Host, S: Sink>(
 ) -> Status
     requires { IsEnd status }
     ensures status { IsOr result status }
-    ensures shown { Tried (S.told screen.old) (S.told screen.new)
+    ensures shown { Tried (S.contents screen.old) (S.contents screen.new)
         (S.faults screen.old) (S.faults screen.new) [] (end_of_line ++ message result) }
     ensures saved { Saves (disk_of H.Host host.old) (disk_of H.Host host.new) out.now store.now.state result }
 {
@@ -36,7 +36,7 @@ fn halt<H: Host, S: Sink>(
 
 // Ends a run whose keys were read to their end: ends the line that is open, which may fail.
 fn end_line<H: Host, S: Sink>(store: &Store, out: &str, host: &mut H, screen: &mut S) -> Status
-    ensures ends { Ends false (S.told screen.old) (S.told screen.new)
+    ensures ends { Ends false (S.contents screen.old) (S.contents screen.new)
         (S.faults screen.old) (S.faults screen.new) result }
     ensures quiet { result ≡ Status.Done → S.faults screen.new ≡ S.faults screen.old }
     ensures saved { Saves (disk_of H.Host host.old) (disk_of H.Host host.new) out.now store.now.state result }
@@ -48,7 +48,7 @@ fn end_line<H: Host, S: Sink>(store: &Store, out: &str, host: &mut H, screen: &m
 }
 
 /// Closes the end of a run that stopped so, where its application has ended it or not: ends the line that is open,
-/// writes the image of the store to a file, and shows the message of the status that it comes to.
+/// writes the image of the store to a file, and shows the message of the status that it ends with.
 #[tactic(auto, unfolding(crate::specs::Closing::Closes))]
 pub fn close<H: Host, S: Sink>(
     stop: Result<(), Stop>,
@@ -58,7 +58,8 @@ pub fn close<H: Host, S: Sink>(
     host: &mut H,
     screen: &mut S,
 ) -> Status
-    ensures closes { Closes stop ended (S.told screen.old) (S.told screen.new)
+    // [close]
+    ensures closes { Closes stop ended (S.contents screen.old) (S.contents screen.new)
         (S.faults screen.old) (S.faults screen.new) result }
     ensures quiet { result ≡ Status.Done → S.faults screen.new ≡ S.faults screen.old }
     ensures saved { Saves (disk_of H.Host host.old) (disk_of H.Host host.new) out.now store.now.state result }

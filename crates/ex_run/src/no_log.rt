@@ -6,13 +6,13 @@ use cm_io::{Put, Sink};
 pub struct NoLog;
 
 impl Sink for NoLog {
-    ghost use Rattle.cm_io.specs.Told.{Nothing};
+    ghost use Rattle.cm_io.specs.Contents.{Nothing};
 
-    ghost told = { λ _. Nothing };
+    ghost contents = { λ _. Nothing };
 
     ghost faults = { λ _. 0 };
 
-    #[tactic(auto, unfolding(cm_io::specs::Told::add))]
+    #[tactic(auto, unfolding(cm_io::specs::Contents::add))]
     fn put(&mut self, _bytes: &[u8]) -> Put {
         Put::Done
     }

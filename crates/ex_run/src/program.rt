@@ -4,7 +4,7 @@
 ghost use Rattle.std.specs.Prelude.{◌≡◌};
 ghost use Rattle.cm_run.specs.Trace.{is_ended};
 ghost use Rattle.ex_store.specs.State.{State};
-ghost use Rattle.ex_system.specs.Asked.{form_view};
+ghost use Rattle.ex_system.specs.WordViews.{form_view};
 ghost use Rattle.ex_system.specs.Disk.{disk_of};
 ghost use Rattle.ex_run.specs.Course.{Comes, Course};
 ghost use Rattle.ex_run.specs.Over.{over};

@@ -1,4 +1,4 @@
--- Copies that are put one behind the other.
+-- Copies that are put one after the other.
 use Rattle.std.proofs.Common.{◌≡◌, ℕ, suc, ◌+◌, List, [], ◌++◌, refl, sym, ap, ◌∙◌, subst, arith}
 use Rattle.cm_io.proofs.Texts.{writes_both, writes_none}
 use Rattle.cm_io.specs.Writer.{Writes}

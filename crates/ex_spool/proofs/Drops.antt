@@ -1,4 +1,4 @@
--- The queue, from its end on, without the entries that are due.
+-- [printed-entry] The queue, from its end on, without the entries that are due.
 -- The queue is emptied from its end: of take i queue ++ filter keep (drop i queue) the entry before place i is taken
 -- out or kept (kept_turn).
 use Rattle.std.proofs.Common.{◌≡◌, ℕ, suc, ◌+◌, ◌≤◌, Bool, true, false, not, List, [], ◌∷◌, ◌++◌, length, take, drop, get_or, filter, None, refl, sym, ap, ap₂, ◌∙◌, arith, append_assoc, if◌then◌else◌}

@@ -1,4 +1,4 @@
--- The pages of the entries that are due.
+-- [due-entry] The pages of the entries that are due.
 use Rattle.std.proofs.Common.{◌≡◌, ℕ, Bool, true, false, List, [], ◌∷◌, ◌++◌, filter, refl, ap, ◌∙◌}
 use Rattle.std.specs.List.{flat_map}
 use Rattle.ex_store.specs.State.{State}

@@ -4,7 +4,7 @@ use Rattle.std.proofs.Common.{◌≡◌, ℕ, Bool, List, [], ◌∷◌, ◌++�
 use Rattle.std.proofs.lemmas.List.{append-nil}
 use Rattle.cm_io.specs.Clock.{later_moments, next_moment}
 use Rattle.cm_io.specs.Fault.{Rose}
-use Rattle.cm_io.specs.Told.{AddsPart, IsPart, Told, add}
+use Rattle.cm_io.specs.Contents.{AddsPart, Contents, IsPart, add}
 use Rattle.cm_io.specs.declared.status.Status.{Status}
 use Rattle.cm_io.specs.declared.status.Status.TheVariants as status
 use Rattle.ex_image.specs.Image.{image_text}
@@ -17,18 +17,18 @@ use Rattle.ex_system.specs.Saving.{HostCause, IsOr, Keeps, Saves}
 use Rattle.ex_system.specs.Start.{Began, InputCause, IsEarly, IsLoaded, IsRun, Starts}
 use Rattle.ex_system.specs.Trying.{Tried}
 use Rattle.ex_system.proofs.Starts.{began_cause, early_memory, not_quiet, one_start}
-use Rattle.ex_system.proofs.Trials.{tried_behind}
+use Rattle.ex_system.proofs.Trials.{tried_after}
 use Rattle.ex_spool.specs.Spool.{pages, without_due}
-use Rattle.ex_spool.specs.Stands.{AreKept, Course, Follows, IsPrinting, Printed, Scene, ScreenCause}
+use Rattle.ex_spool.specs.RunEnd.{AreKept, Course, Follows, IsPrinting, Printed, Scene, ScreenCause}
 
 -- the pages were shown and the image is written
-pub printed_whole : (start : State) (moment : ℕ) (out : List ℕ) (before middle now : Told) (f g h : ℕ) (loaded after : Disk)
+pub printed_whole : (start : State) (moment : ℕ) (out : List ℕ) (before middle now : Contents) (f g h : ℕ) (loaded after : Disk)
     (left : State) (result : Status) → middle ≡ add before (pages moment start) → g ≡ f → left ≡ without_due moment start
     → IsOr result status.Done → Tried middle now g h [] (message result) → (result ≡ status.Done → h ≡ g)
     → Saves loaded after out left result → Printed start moment out before now f h loaded after result
 printed_whole start moment out before middle now f g h loaded after left result put same leaves ends tried quiet saves = inl (record {
   ends = ends;
-  shown = tried_behind before middle now f g h (pages moment start) (message result) put same tried;
+  shown = tried_after before middle now f g h (pages moment start) (message result) put same tried;
   quiet = λ done. quiet done ∙ same;
   saves = subst (λ (it : State). Saves loaded after out it result) leaves saves;
 })
@@ -63,8 +63,8 @@ no_write_fault None early = early
 no_write_fault (Some name) early = early
 
 -- a text that is tried at once is there in part
-tried_part : (before now : Told) (f g : ℕ) (text : List ℕ) → Tried before now f g [] text → AddsPart before now text
-tried_part before now f g text tried = record { part = tried.part; is_part = tried.is_part; added = tried.told }
+tried_part : (before now : Contents) (f g : ℕ) (text : List ℕ) → Tried before now f g [] text → AddsPart before now text
+tried_part before now f g text tried = record { part = tried.part; is_part = tried.is_part; added = tried.contents }
 
 -- where a status does not come, what it says holds
 never : {P : Type 0} (input : Option (List ℕ)) (result other : Status) → IsEarly input result → (IsEarly input other → ⊥)
@@ -72,7 +72,7 @@ never : {P : Type 0} (input : Option (List ℕ)) (result other : Status) → IsE
 never input result other early none is = absurd (none (subst (λ (it : Status). IsEarly input it) is early))
 
 -- before any page
-module _ (told : Type 0) (form : Form) (a b : Scene) (why result : Status) (same : result ≡ why)
+module _ (known : Type 0) (form : Form) (a b : Scene) (why result : Status) (same : result ≡ why)
     (early : IsEarly form.input why) (cause : InputCause a.disk form.input why)
     (host : HostCause a.disk.faults b.disk.faults why)
     (tried : Tried a.screen b.screen a.faults b.faults [] (message why)) (loads : IsLoaded form.input a.disk b.disk)
@@ -90,7 +90,7 @@ module _ (told : Type 0) (form : Form) (a b : Scene) (why result : Status) (same
     complete = λ screen disk. inr (early_memory a.disk form.input start a.disk.faults b.disk.faults why early cause starts host disk);
   }
 
-  early_course : Course told form a b why
+  early_course : Course known form a b why
   early_course = record {
     stands = inl (early, record { screen = tried; moments = moments }, loads);
     printing = early_printing form.input why early;
@@ -101,8 +101,8 @@ module _ (told : Type 0) (form : Form) (a b : Scene) (why result : Status) (same
     follows = λ tells start starts. early_follows start starts;
   }
 
-  pub course_early : Course told form a b result
-  course_early = subst (λ (it : Status). Course told form a b it) (sym same) early_course
+  pub course_early : Course known form a b result
+  course_early = subst (λ (it : Status). Course known form a b it) (sym same) early_course
 
 -- by how a run ended that printed
 module _ (start : State) (moment : ℕ) (out : List ℕ) (a b : Scene) (loaded : Disk) (result : Status) where
@@ -155,7 +155,7 @@ module _ (start : State) (moment : ℕ) (out : List ℕ) (a b : Scene) (loaded :
   past_shown (inl saved) done =
       let none : saved.shown.part ≡ [] =
       none_part saved.shown.part (subst (λ (it : Status). IsPart saved.shown.part (message it)) done saved.shown.is_part) in
-      saved.shown.told ∙ ap (λ (bytes : List ℕ). add a.screen (pages moment start ++ bytes)) none
+      saved.shown.contents ∙ ap (λ (bytes : List ℕ). add a.screen (pages moment start ++ bytes)) none
       ∙ ap (λ (bytes : List ℕ). add a.screen bytes) (append-nil (pages moment start))
   past_shown (inr cut) done = let wrong : status.Done ≡ status.WriteFault = sym done ∙ cut.ends in absurd (cc)
 
@@ -188,30 +188,30 @@ module _ (start : State) (moment : ℕ) (out : List ℕ) (a b : Scene) (loaded :
   past_quiet same (inr cut) screen host = absurd (not_quiet a.faults b.faults cut.rose screen)
 
 -- the run that printed
-module _ (told : Type 0) (form : Form) (a b : Scene) (result : Status) (start : State) (moment : ℕ) (loaded : Disk)
+module _ (known : Type 0) (form : Form) (a b : Scene) (result : Status) (start : State) (moment : ℕ) (loaded : Disk)
     (loads : IsLoaded form.input a.disk loaded) (stays : loaded.faults ≡ a.disk.faults)
     (began : Began a.disk form.input start)
-    (taken : told → (moment ≡ next_moment a.moments) × (b.moments ≡ later_moments a.moments))
+    (taken : known → (moment ≡ next_moment a.moments) × (b.moments ≡ later_moments a.moments))
     (tells_same : loaded.tells ≡ b.disk.tells)
     (printed : Printed start moment form.out a.screen b.screen a.faults b.faults loaded b.disk result) where
   run : IsRun result
   run = past_run start moment form.out a b loaded result printed
 
-  follows : told → Follows form start a b result
+  follows : known → Follows form start a b result
   follows tells =
       let is : moment ≡ next_moment a.moments = (taken tells).0 in
       let now : Printed start (next_moment a.moments) form.out a.screen b.screen a.faults b.faults loaded b.disk result =
       subst (λ (it : ℕ). Printed start it form.out a.screen b.screen a.faults b.faults loaded b.disk result) is printed in
       record {
         shown = past_shown start (next_moment a.moments) form.out a b loaded result now;
-        saved = λ done told. past_saved start (next_moment a.moments) form.out a b loaded result now done
-            (subst (λ (it : Bool). IsTrue it) (sym tells_same) told);
+        saved = λ done known. past_saved start (next_moment a.moments) form.out a b loaded result now done
+            (subst (λ (it : Bool). IsTrue it) (sym tells_same) known);
         cut = past_cut start (next_moment a.moments) form.out a b loaded result loads.files now;
         unshown = λ wanting. absurd (past_memory start moment form.out a b loaded result printed wanting);
         complete = λ screen host. inl (past_quiet start (next_moment a.moments) form.out a b loaded result stays now screen host);
       }
 
-  pub course_past : Course told form a b result
+  pub course_past : Course known form a b result
   course_past = record {
     stands = inr (record {
       start = start;
@@ -231,10 +231,10 @@ module _ (told : Type 0) (form : Form) (a b : Scene) (result : Status) (start : 
   }
 
 -- the run whose screen failed within the pages
-pub course_cut : (told : Type 0) (form : Form) (a b : Scene) (start : State) (moment : ℕ) → IsLoaded form.input a.disk b.disk
+pub course_cut : (known : Type 0) (form : Form) (a b : Scene) (start : State) (moment : ℕ) → IsLoaded form.input a.disk b.disk
     → b.disk.faults ≡ a.disk.faults → Began a.disk form.input start
-    → (told → (moment ≡ next_moment a.moments) × (b.moments ≡ later_moments a.moments))
-    → AddsPart a.screen b.screen (pages moment start) → Rose a.faults b.faults → Course told form a b status.WriteFault
-course_cut told form a b start moment loads stays began taken shown rose =
-    course_past told form a b status.WriteFault start moment b.disk loads stays began taken refl
+    → (known → (moment ≡ next_moment a.moments) × (b.moments ≡ later_moments a.moments))
+    → AddsPart a.screen b.screen (pages moment start) → Rose a.faults b.faults → Course known form a b status.WriteFault
+course_cut known form a b start moment loads stays began taken shown rose =
+    course_past known form a b status.WriteFault start moment b.disk loads stays began taken refl
     (inr (record { ends = refl; shown = shown; rose = rose; kept = refl }))

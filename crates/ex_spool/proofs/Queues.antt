@@ -3,14 +3,14 @@ use Rattle.std.proofs.Common.{◌≡◌, ◌⊎◌, ℕ, Bool, true, false, not,
 use Rattle.std.specs.List.{flat_map}
 use Rattle.std.proofs.lemmas.Grind.{flat_map-append}
 use Rattle.cm_lists.proofs.Filters.{filter_stands}
-use Rattle.cm_io.specs.Told.{Told, add}
+use Rattle.cm_io.specs.Contents.{Contents, add}
 use Rattle.cm_io.specs.declared.status.Status.{Status}
 use Rattle.ex_store.specs.State.{State}
 use Rattle.ex_store.specs.declared.queue.QueueEntry.{QueueEntry}
 use Rattle.ex_system.specs.Disk.{Disk}
 use Rattle.ex_spool.specs.Among.{StandsIn, WasShown}
 use Rattle.ex_spool.specs.Spool.{is_due, pages, pages_of, without_due}
-use Rattle.ex_spool.specs.Stands.{Printed}
+use Rattle.ex_spool.specs.RunEnd.{Printed}
 
 -- the pages of an entry that is due stand among those of all
 pages_stand : (moment : ℕ) (state : State) (entry : QueueEntry) (front back : List QueueEntry) → state.queue ≡ front ++ entry ∷ back
@@ -27,15 +27,15 @@ pages_stand moment state entry front back is due =
     (flat_map (pages_of state) (filter (is_due moment) back)))
 
 -- so they were shown
-was_shown : (moment : ℕ) (state : State) (entry : QueueEntry) (before now : Told) (part : List ℕ) → StandsIn state.queue entry
+was_shown : (moment : ℕ) (state : State) (entry : QueueEntry) (before now : Contents) (part : List ℕ) → StandsIn state.queue entry
     → is_due moment entry ≡ true → now ≡ add before (pages moment state ++ part) → WasShown before now (pages_of state entry)
-was_shown moment state entry before now part stands due told =
+was_shown moment state entry before now part stands due known =
     let first : List ℕ = flat_map (pages_of state) (filter (is_due moment) stands.front) in
     let last : List ℕ = flat_map (pages_of state) (filter (is_due moment) stands.back) in
     record {
       front = first;
       back = last ++ part;
-      is = told
+      is = known
           ∙ ap (λ (it : List ℕ). add before (it ++ part)) (pages_stand moment state entry stands.front stands.back stands.is due)
           ∙ ap (λ (it : List ℕ). add before it) (append_assoc (first ++ pages_of state entry) last part);
     }
@@ -50,7 +50,7 @@ still_stands moment state entry stands due = record {
       ∙ filter_stands (λ it. not (is_due moment it)) stands.front stands.back entry (ap (λ (test : Bool). not test) due);
 }
 
-pub leaves_shown : (start : State) (moment : ℕ) (out : List ℕ) (before now : Told) (f g : ℕ) (loaded after : Disk) (result : Status)
+pub leaves_shown : (start : State) (moment : ℕ) (out : List ℕ) (before now : Contents) (f g : ℕ) (loaded after : Disk) (result : Status)
     (entry : QueueEntry) → Printed start moment out before now f g loaded after result → StandsIn start.queue entry
     → (after ≡ loaded) ⊎ (StandsIn (without_due moment start).queue entry ⊎ WasShown before now (pages_of start entry))
 leaves_shown start moment out before now f g loaded after result entry (inr cut) stands = inl cut.kept
@@ -59,7 +59,7 @@ leaves_shown start moment out before now f g loaded after result entry (inl save
   where
     by : (test : Bool) → is_due moment entry ≡ test
         → StandsIn (without_due moment start).queue entry ⊎ WasShown before now (pages_of start entry)
-    by true due = inr (was_shown moment start entry before now saved.shown.part stands due saved.shown.told)
+    by true due = inr (was_shown moment start entry before now saved.shown.part stands due saved.shown.contents)
     by false due = inl (still_stands moment start entry stands due)
 
 -- of the entries that are not due none is due, and all stay

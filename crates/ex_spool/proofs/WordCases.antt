@@ -6,20 +6,20 @@ use Rattle.cm_io.specs.declared.status.Status.TheVariants as status
 use Rattle.ex_store.specs.State.{State}
 use Rattle.ex_system.specs.Form.{Form}
 use Rattle.ex_system.specs.Start.{Starts}
-use Rattle.ex_spool.specs.Stands.{Asks, Course, Follows, Scene, Stands, StartCause}
+use Rattle.ex_spool.specs.RunEnd.{Asks, Course, Follows, Scene, Stands, StartCause}
 
-module _ (told : Type 0) (asked : Option Form) (form : Form) (a b : Scene) (result : Status) (is : Some form ≡ asked)
-    (course : Course told form a b result) where
+module _ (known : Type 0) (asked : Option Form) (form : Form) (a b : Scene) (result : Status) (is : Some form ≡ asked)
+    (course : Course known form a b result) where
   -- what follows where the run is to begin in a state
-  pub follows_asked : told → (other : Form) (start : State) → Asks asked a.disk other start → Follows other start a b result
+  pub follows_asked : known → (other : Form) (start : State) → Asks asked a.disk other start → Follows other start a b result
   follows_asked tells other start asks =
       let same : form ≡ other = one_some asked form other is asks.0 in
       subst (λ (it : Form). Follows it start a b result) same
       (course.follows tells start (subst (λ (it : Form). Starts a.disk it.input start) (sym same) asks.1))
 
   -- and what stands, whatever they ask for
-  pub stands_asked : Stands told asked a b result
-  stands_asked = subst (λ (it : Option Form). Stands told it a b result) is course.stands
+  pub stands_asked : Stands known asked a b result
+  stands_asked = subst (λ (it : Option Form). Stands known it a b result) is course.stands
 
   pub start_asked : StartCause a.disk asked result
   start_asked = subst (λ (it : Option Form). StartCause a.disk it result) is course.start

@@ -1,6 +1,6 @@
 -- An element that stands in a list, and a text that was shown whole.
 use Rattle.std.specs.Prelude.{◌≡◌, ℕ, List, ◌∷◌, ◌++◌}
-use Rattle.cm_io.specs.Told.{Told, add}
+use Rattle.cm_io.specs.Contents.{Contents, add}
 
 pub record StandsIn {X : Type 0} (xs : List X) (x : X) : Type 0 where
   pub front : List X
@@ -8,7 +8,7 @@ pub record StandsIn {X : Type 0} (xs : List X) (x : X) : Type 0 where
   pub is : xs ≡ front ++ x ∷ back
 
 -- of what was given between two moments the text is a part
-pub record WasShown (before now : Told) (text : List ℕ) : Type 0 where
+pub record WasShown (before now : Contents) (text : List ℕ) : Type 0 where
   pub front : List ℕ
   pub back : List ℕ
   pub is : now ≡ add before ((front ++ text) ++ back)

@@ -1,4 +1,4 @@
 pub mod Among
-pub mod Texts
+pub mod RunEnd
 pub mod Spool
-pub mod Stands
+pub mod Texts

@@ -17,6 +17,7 @@ abbrev pub has_come : ℕ → Option ℤ → Bool
 has_come moment None = true
 has_come moment (Some day) = int_le day (pos (moment / DAY_SECONDS))
 
+-- [due-entry]
 abbrev pub is_due : ℕ → QueueEntry → Bool
 is_due moment entry = has_come moment entry.after
 
@@ -79,6 +80,6 @@ pages moment state = flat_map (pages_of state) (filter (is_due moment) state.que
 unfoldable pub due_text : ℕ → State → QueueEntry → List ℕ
 due_text moment state entry = if is_due moment entry then pages_of state entry else []
 
--- the state without the entries that are due
+-- [printed-entry] the state without the entries that are due
 abbrev pub without_due : ℕ → State → State
 without_due moment state = record state { queue = filter (λ entry. not (is_due moment entry)) state.queue }

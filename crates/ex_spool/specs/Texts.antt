@@ -21,7 +21,7 @@ before_copies = codes " OF "
 unfoldable pub before_note : List ℕ
 before_note = codes " NOTE "
 
--- behind the name of a file that is not there
+-- after the name of a file that is not there
 unfoldable pub not_there : List ℕ
 not_there = codes " IS NOT THERE"
 

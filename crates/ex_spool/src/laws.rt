@@ -1,6 +1,6 @@
 //! Laws of the spooler.
 ghost use Rattle.std.specs.Prelude.{◌≡◌, ◌≢◌, ◌⊎◌, ℕ, List, [], Some, IsTrue};
-ghost use Rattle.cm_io.specs.Told.{Told};
+ghost use Rattle.cm_io.specs.Contents.{Contents};
 ghost use Rattle.cm_io.specs.declared.status.Status.{Status};
 ghost use Rattle.cm_io.specs.declared.status.Status.TheVariants as status;
 ghost use Rattle.ex_store.specs.State.{State};
@@ -10,7 +10,7 @@ ghost use Rattle.ex_system.specs.Saving.{Saves};
 ghost use Rattle.ex_system.specs.Start.{Began};
 ghost use Rattle.ex_spool.specs.Among.{StandsIn, WasShown};
 ghost use Rattle.ex_spool.specs.Spool.{pages, pages_of, without_due};
-ghost use Rattle.ex_spool.specs.Stands.{Printed};
+ghost use Rattle.ex_spool.specs.RunEnd.{Printed};
 ghost use Rattle.ex_spool.specs.declared.due.TheConstants.{DAY_SECONDS};
 
 use ex_system::laws::what_is_saved_is_read_again;
@@ -20,10 +20,10 @@ pub fn these_are_the_numbers()
     ensures { DAY_SECONDS ≡ 86400 }
 {}
 
-/// An entry leaves the queue of a written image only where all its pages were shown: behind a run that printed, the
+/// An entry leaves the queue of a written image only where all its pages were shown: after a run that printed, the
 /// host is as it was, or the entry stands in the queue of the image, or the screen was given all its pages.
 pub fn an_entry_leaves_only_where_its_pages_were_shown()
-    ensures { (start : State) → (moment : ℕ) → (out : List ℕ) → (before now : Told) → (f g : ℕ)
+    ensures { (start : State) → (moment : ℕ) → (out : List ℕ) → (before now : Contents) → (f g : ℕ)
         → (loaded after : Disk) → (result : Status) → (entry : QueueEntry)
         → Printed start moment out before now f g loaded after result → StandsIn start.queue entry
         → (after ≡ loaded)

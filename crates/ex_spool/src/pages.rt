@@ -2,7 +2,7 @@
 ghost use Rattle.std.specs.Prelude.{◌≡◌, ◌≤◌, true, nat_lt};
 ghost use Rattle.std.specs.List.{flat_map, list_all};
 ghost use Rattle.cm_io.specs.Fault.{PutCause};
-ghost use Rattle.cm_io.specs.Told.{Adds};
+ghost use Rattle.cm_io.specs.Contents.{Adds};
 ghost use Rattle.cm_io.specs.Writer.{Writes};
 ghost use Rattle.ex_store.specs.declared.limits.TheConstants.{FORMS};
 ghost use Rattle.ex_spool.specs.Spool.{due_text, pages};
@@ -31,11 +31,11 @@ fn put_pages<S: Sink>(store: &Store, moment: u64, out: &mut Writer<'_, S>)
 
 /// Shows the pages of the entries that are due. It takes no memory.
 pub(crate) fn show_pages<S: Sink>(store: &Store, moment: u64, screen: &mut S) -> Put
-    ensures bytes { Adds (S.told screen.old) (S.told screen.new) (pages moment store.now.state) result }
+    ensures bytes { Adds (S.contents screen.old) (S.contents screen.new) (pages moment store.now.state) result }
     ensures later { S.faults screen.old ≤ S.faults screen.new }
     ensures cause { PutCause (S.faults screen.old) (S.faults screen.new) result }
 {
     let mut out = Writer::new(screen);
     put_pages(store, moment, &mut out);
-    out.went()
+    out.outcome()
 }

@@ -2,17 +2,17 @@
 ghost use Rattle.std.specs.Prelude.{◌≡◌, ◌⊎◌, ◌↔◌, None, Some, IsTrue};
 ghost use Rattle.std.specs.Option.{option_map};
 ghost use Rattle.cm_io.specs.Clock.{next_moment};
-ghost use Rattle.cm_io.specs.Told.{AddsPart, add};
+ghost use Rattle.cm_io.specs.Contents.{AddsPart, add};
 ghost use Rattle.ex_image.specs.Image.{image_text};
 ghost use Rattle.ex_store.specs.State.{State};
-ghost use Rattle.ex_system.specs.Asked.{form_view};
+ghost use Rattle.ex_system.specs.WordViews.{form_view};
 ghost use Rattle.ex_system.specs.Disk.{disk_of};
 ghost use Rattle.ex_system.specs.Form.{Form};
 ghost use Rattle.ex_system.specs.Messages.{message};
 ghost use Rattle.ex_system.specs.Quiet.{IsQuiet};
 ghost use Rattle.ex_system.specs.Saving.{HostCause};
 ghost use Rattle.ex_spool.specs.Spool.{pages, without_due};
-ghost use Rattle.ex_spool.specs.Stands.{AreKept, Asks, IsPrinting, ScreenCause, Stands, StartCause, form_of, scene, usage};
+ghost use Rattle.ex_spool.specs.RunEnd.{AreKept, Asks, IsPrinting, ScreenCause, Stands, StartCause, form_of, scene, usage};
 
 use crate::due::drop_due;
 use crate::pages::show_pages;
@@ -21,7 +21,7 @@ use ex_system::{as_pair, finish, in_out, refuse, refuse_usage, start};
 use std::alloc::Global;
 
 // What the words ask for.
-#[tactic(auto, unfolding(crate::specs::Stands::form_of))]
+#[tactic(auto, unfolding(crate::specs::RunEnd::form_of))]
 fn form_of(words: &Words) -> Option<ex_system::Form<'_>>
     ensures { option_map form_view result ≡ form_of words.now }
 {
@@ -32,7 +32,7 @@ fn form_of(words: &Words) -> Option<ex_system::Form<'_>>
 }
 
 // What is shown where the words ask for nothing that the program does.
-#[tactic(auto, unfolding(crate::specs::Stands::usage))]
+#[tactic(auto, unfolding(crate::specs::RunEnd::usage))]
 fn usage() -> &'static str
     ensures { result.now ≡ usage }
 {
@@ -44,7 +44,7 @@ fn usage() -> &'static str
 ///
 /// `words` are `IN OUT`. The image in the file IN of `host` is read, and one moment of `clock` is taken; an entry is
 /// due where it has no day, or its day has come by then. The pages of all entries that are due are shown on `screen`,
-/// in the order of the queue, and then the image without these entries is written to the file OUT. Behind the reading
+/// in the order of the queue, and then the image without these entries is written to the file OUT. After the reading
 /// no memory is asked for.
 pub fn spool20<H: Host, S: Sink, C: Clock>(
     alloc: Global,
@@ -53,23 +53,23 @@ pub fn spool20<H: Host, S: Sink, C: Clock>(
     screen: &mut S,
     clock: &mut C,
 ) -> Status
-    // Where the run is Done, the screen was given the pages of the entries that are due, in their order ..
+    // [due-entry] Where the run is Done, the screen was given the pages of the entries that are due, in their order ..
     ensures shown { IsTrue C.tells → result ≡ Status.Done
         → (form : Form) → (start : State) → Asks (form_of words.now) (disk_of H.Host host.old) form start
-        → S.told screen.new ≡ add (S.told screen.old) (pages (next_moment (C.left clock.old)) start) }
-    // .. and OUT holds the image of the state without them.
+        → S.contents screen.new ≡ add (S.contents screen.old) (pages (next_moment (C.left clock.old)) start) }
+    // [printed-entry] .. and OUT holds the image of the state without them.
     ensures saved { IsTrue C.tells → IsTrue H.tells → result ≡ Status.Done
         → (form : Form) → (start : State) → Asks (form_of words.now) (disk_of H.Host host.old) form start
         → H.files host.new form.out ≡ Some (image_text (without_due (next_moment (C.left clock.old)) start)) }
     // Where the screen failed it was given a prefix of the pages, and every file is as before.
     ensures cut { IsTrue C.tells → result ≡ Status.WriteFault
         → (form : Form) → (start : State) → Asks (form_of words.now) (disk_of H.Host host.old) form start
-        → AddsPart (S.told screen.old) (S.told screen.new) (pages (next_moment (C.left clock.old)) start)
+        → AddsPart (S.contents screen.old) (S.contents screen.new) (pages (next_moment (C.left clock.old)) start)
         × AreKept (disk_of H.Host host.old) (disk_of H.Host host.new) }
-    // Where memory is wanting no page was shown, and every file is as before.
+    // Where memory runs out no page was shown, and every file is as before.
     ensures unshown { IsTrue C.tells → result ≡ Status.NoMemory
         → (form : Form) → (start : State) → Asks (form_of words.now) (disk_of H.Host host.old) form start
-        → AddsPart (S.told screen.old) (S.told screen.new) (message Status.NoMemory)
+        → AddsPart (S.contents screen.old) (S.contents screen.new) (message Status.NoMemory)
         × AreKept (disk_of H.Host host.old) (disk_of H.Host host.new) }
 
     // What stands, whatever the status. Before any page the message alone is shown, IN is loaded once, no moment is
@@ -89,7 +89,7 @@ pub fn spool20<H: Host, S: Sink, C: Clock>(
     // image, BadImage exactly where its bytes are no image, with the place and the kind of the first wrong record.
     ensures start { StartCause (disk_of H.Host host.old) (form_of words.now) result }
 
-    // With words of a form, an image in IN, and nothing outside that fails, the run is Done, or memory is wanting.
+    // With words of a form, an image in IN, and nothing outside that fails, the run is Done, or memory runs out.
     ensures complete { IsTrue C.tells
         → (form : Form) → (start : State) → Asks (form_of words.now) (disk_of H.Host host.old) form start
         → IsQuiet (S.faults screen.old) (S.faults screen.new) → IsQuiet (H.faults host.old) (H.faults host.new)

@@ -50,7 +50,7 @@ pub(crate) fn before_note() -> &'static [u8]
     b" NOTE "
 }
 
-/// Behind the name of a file that is not there.
+/// After the name of a file that is not there.
 #[tactic(auto, unfolding(crate::specs::Texts::not_there))]
 pub(crate) fn not_there() -> &'static [u8]
     ensures { result.now ≡ not_there }
@@ -66,7 +66,7 @@ pub(crate) fn left_angle() -> &'static [u8]
     b"<"
 }
 
-/// Behind the name of a directory.
+/// After the name of a directory.
 #[tactic(auto, unfolding(crate::specs::Texts::right_angle))]
 pub(crate) fn right_angle() -> &'static [u8]
     ensures { result.now ≡ right_angle }

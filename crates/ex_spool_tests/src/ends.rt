@@ -38,7 +38,7 @@ status WriteFault
 room 64
 screen {NARROW}HI{EOL}{FF}
 
-# the file cannot be created, behind all pages
+# the file cannot be created, after all pages
 call 1
 left none
 screen {NARROW}HI{EOL}{FF}?Host fault{EOL}
@@ -94,6 +94,7 @@ left none
 screen Usage: spool20 IN OUT{EOL}
 status Usage";
 
+// [due-entry]
 #[test]
 fn entries_are_due_from_their_day_on(rt: HostRuntime) -> Result<(), Fail> {
     try_cases(rt.alloc(), DAYS)

@@ -2,7 +2,7 @@
 // with each call.
 //
 // What must stand is the trace of the whole run, cut where a put fails. The screen fails in one put alone, and would
-// take what is put behind it.
+// take what is put after it.
 use cm_faults::{
     Failing, NOTHING, Part, PartSink, Stands, Stop, closing, has_image, is_written, push_text,
     stands_at, status_of,
@@ -16,7 +16,7 @@ const INPUT: &str =
     "EXEC20 2|D OPERATOR 1|C OPERATOR|F OPERATOR A..1 U 1 0 - 4|HI~|Q OPERATOR A..1 2 NARROW - A_|\
     Q OPERATOR A..1 1 WIDE 11 B_|Q OPERATOR B..1 1 WIDE 10 C_|E|";
 
-// The pages of the first entry, and of the third, whose file is not there. Behind `act` is the image, with `/` between
+// The pages of the first entry, and of the third, whose file is not there. After `act` is the image, with `/` between
 // its writes.
 const TRACE: &str = "show _JOB A~ FILE <OPERATOR>A..1~ FORM NARROW~ COPY 1 OF 2~\x0cHI~\x0c
 show _JOB A~ FILE <OPERATOR>A..1~ FORM NARROW~ COPY 2 OF 2~\x0cHI~\x0c
@@ -118,7 +118,7 @@ fn try_one(alloc: Global, failing: &Failing, whole: &Outcome) -> Result<(), Fail
     Err(Fail::new(format_args!("{failing:?} {:?} {:?}", outcome.status, screen.as_str())))
 }
 
-// With each call of the host, and behind these with one that is not made.
+// With each call of the host, and after these with one that is not made.
 fn try_calls(alloc: Global, failing: Failing, whole: &Outcome) -> Result<(), Fail> {
     for call in 0..CALLS.saturating_add(1) {
         let both = Failing {

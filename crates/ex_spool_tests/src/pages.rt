@@ -21,7 +21,7 @@ in {HEAD}F OPERATOR A..1 D 1 0 - 2{LF}HI{LF}Q OPERATOR A..1 1 NARROW - A {LF}E{L
 out {HEAD}F OPERATOR A..1 D 1 0 - 2{LF}HI{LF}E{LF}
 screen {NARROW}HI{EOL}{FF}";
 
-const ROWS: &str = "# an empty file has no page behind its banner
+const ROWS: &str = "# an empty file has no page after its banner
 file {}
 screen {NARROW}
 
@@ -102,6 +102,7 @@ fn each_copy_has_its_banner(rt: HostRuntime) -> Result<(), Fail> {
     try_cases(rt.alloc(), COPIES)
 }
 
+// [page]
 #[test]
 fn rows_are_cut_and_pages_filled(rt: HostRuntime) -> Result<(), Fail> {
     try_cases(rt.alloc(), ROWS)

@@ -29,6 +29,7 @@ left Q OPERATOR A..1 1 WIDE 2 N{number} {{LF}}\nscreen {{NARROW}}HI{{EOL}}{{FF}}
     Ok(case)
 }
 
+// [printed-entry]
 #[test]
 fn all_copies_are_printed(rt: HostRuntime) -> Result<(), Fail> {
     try_cases(rt.alloc(), copies(rt.alloc())?.as_str())

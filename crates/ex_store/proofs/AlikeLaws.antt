@@ -85,7 +85,7 @@ bytes_unread full (row ∷ rows) = by (is_full full row) (bytes_unread full rows
 pub bytes_alike : (full : FullName) (rows other : List Row) → AreAlike rows other → bytes_at full rows ≡ bytes_at full other
 bytes_alike full rows other alike = sym (bytes_unread full rows) ∙ ap (bytes_at full) alike ∙ bytes_unread full other
 
--- which generation a new file takes, how many it keeps, and which one is put behind
+-- which generation a new file takes, how many it keeps, and which one is put after
 numbered_alike : (generation : Gen) (key : Key) (rows other : List Row) → AreAlike rows other
     → numbered generation (files_of key rows) ≡ numbered generation (files_of key other)
 numbered_alike generation key rows other alike =
@@ -126,7 +126,7 @@ opening_alike retention moment key None generation rows other alike =
     ap (λ (keep : ℕ). and_then (opening_at keep moment key) (admitted key generation 0 rows)) (keep_alike retention key rows other alike)
     ∙ ap (and_then (opening_at (keep_at retention key other) moment key)) (admitted_alike key generation 0 rows other alike)
 
--- the file that is put behind
+-- the file that is put after
 pub opened_alike : (retention moment : ℕ) (key : Key) (generation : Gen) (rows other : List Row) → AreAlike rows other
     → opened retention moment key generation rows ≡ opened retention moment key generation other
 opened_alike retention moment key generation rows other alike =

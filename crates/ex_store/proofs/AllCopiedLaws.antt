@@ -30,7 +30,7 @@ use Rattle.ex_store.proofs.DoableLaws.{doable_more}
 use Rattle.ex_store.proofs.TotalLaws.{length_added, total_added}
 use Rattle.ex_store.proofs.RowsInEitherLaws.{added_either, either_target, files_either, is_either}
 
--- what a plan has come to
+-- the outcome of a plan
 abbrev pub outcome_at : List Row → List RowChange → List NamePair → Outcome
 outcome_at rows done pairs = record { rows = rows_after_all rows done; pairs = pairs }
 

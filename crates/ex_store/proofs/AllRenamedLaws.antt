@@ -10,7 +10,7 @@ use Rattle.cm_lists.proofs.Ascents.{all_above, is_sorted}
 use Rattle.cm_lists.proofs.Orders.{is_eq-true, is_eq_from_equal, lt_is_not_eq, reverse_is_not_eq}
 use Rattle.cm_lists.proofs.Positions.{find_among, find_found}
 use Rattle.cm_lists.proofs.Quantifiers.{all_at}
-use Rattle.cm_files.specs.Catalogue.{ascends}
+use Rattle.cm_lists.specs.Ascent.{ascends}
 use Rattle.ex_generations.specs.Retention.{live}
 use Rattle.ex_store.specs.declared.directory.Directory.{Directory}
 use Rattle.ex_store.specs.declared.key.FullName.{FullName}
@@ -20,7 +20,7 @@ use Rattle.ex_store.specs.Positions.{elements_at}
 use Rattle.ex_store.specs.Renaming.{AreDistinct}
 use Rattle.ex_store.specs.Rows.{added, by_full, by_row, files_of, full_of, inserted, is_full, is_of, kept_newest, row_at, total, with_mark, without}
 use Rattle.ex_store.specs.WellFormed.{AreRows, is_row_among}
-use Rattle.ex_store.proofs.AscendsLaws.{ascends_filter, ascends_sorted, sorted_ascends}
+use Rattle.cm_lists.proofs.Ascents.{ascends_filter, ascends_sorted, sorted_ascends}
 use Rattle.ex_store.proofs.TotalLaws.{total_cons}
 use Rattle.ex_store.proofs.AreRowsLaws.{by_full_total, by_row_total, is_absent}
 

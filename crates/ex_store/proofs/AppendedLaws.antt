@@ -1,4 +1,4 @@
--- Bytes are put behind those of a file: the rows stay those of a store, and what the plan comes to.
+-- Bytes are put after those of a file: the rows stay those of a store, and the outcome of the plan.
 use Rattle.std.proofs.Common.{◌≡◌, ◌≤◌, ◌+◌, ◌&&◌, nat_le, ℕ, suc, Bool, true, false, not, cond, List, [], ◌∷◌, length, unwrap_or, Ok, Err, Option, Some, None, refl, ap, arith, ◌∙◌, subst}
 use Rattle.std.specs.List.{list_all}
 use Rattle.std.specs.Option.{option_map_or}
@@ -9,7 +9,7 @@ use Rattle.cm_lists.proofs.Ascents.{all_above, is_sorted}
 use Rattle.cm_fields.specs.declared.code.Code.{Code}
 use Rattle.ex_generations.specs.declared.file.File.{File}
 use Rattle.ex_generations.specs.declared.file.TheConstants.{FILE_LIMIT}
-use Rattle.cm_files.specs.Catalogue.{ascends}
+use Rattle.cm_lists.specs.Ascent.{ascends}
 use Rattle.ex_generations.specs.Generations.{has, rewritten}
 use Rattle.ex_store.specs.declared.append.Opening.{Opening}
 use Rattle.ex_store.specs.declared.directory.Directory.{Directory}
@@ -31,7 +31,7 @@ use Rattle.ex_store.specs.Ready.{are_doable, is_lawful, rows_after_all}
 use Rattle.ex_store.specs.Rows.{added, by_row, files_of, filled, full_of, is_full, row_at, total}
 use Rattle.ex_store.specs.WellFormed.{AreRows, is_file_name, is_file_type, is_row_among, is_stamped}
 use Rattle.ex_store.proofs.AdmittedLaws.{admitted_is, and_then_ok, counted_file, rows_added}
-use Rattle.ex_store.proofs.AscendsLaws.{ascends_sorted, sorted_ascends}
+use Rattle.cm_lists.proofs.Ascents.{ascends_sorted, sorted_ascends}
 use Rattle.ex_store.proofs.AllCopiedLaws.{formed, formed_is, keep_within, moment_within, new_stamped}
 use Rattle.ex_store.proofs.ElementsLaws.{length_elements}
 use Rattle.ex_store.proofs.ConcatenationLaws.{concatenation_within}
@@ -173,7 +173,7 @@ abbrev is_lawful_new : Option Row → Bool
 is_lawful_new None = true
 is_lawful_new (Some row) = is_lawful (changes.Add row)
 
--- the rows with the file that is put behind, and how many bytes they have
+-- the rows with the file that is put after, and how many bytes they have
 record IsOpened (directories : List Directory) (rows : List Row) (there : Opening) : Type 0 where
   are : AreRows directories (with_opened rows there.new)
   new : is_new rows there.new ≡ true
@@ -274,7 +274,7 @@ append_lawful directories retention moment to rows sources there bytes done are 
     let limits = concatenation_within (total rows) (bytes_at there.target rows) sources bytes pours (bytes_short directories there.target rows are.within) are.small in
     rw is (lawful_opened there.target there.new (moment_of moment) bytes known.lawful (le-leb (length bytes) FILE_LIMIT limits.0))
 
--- the rows behind the changes are those of a store
+-- the rows after the changes are those of a store
 pub append_sound : (directories : List Directory) (retention moment : ℕ) (to : Place) (rows sources : List Row) (there : Opening) (bytes : List ℕ) (done : List RowChange)
     → AreRows directories rows → IsOneFile to directories → nat_le retention RETENTION_LIMIT ≡ true
     → opened retention moment (own_key to) to.generation rows ≡ Ok there
@@ -289,7 +289,7 @@ append_sound directories retention moment to rows sources there bytes done are o
     rw (is, changes_opened rows there.target there.new (moment_of moment) bytes)
     (rows_filled directories there.target (moment_of moment) bytes (with_opened rows there.new) known.are (moment_within moment) limits.0 small)
 
--- what the plan comes to
+-- the outcome of the plan
 pub append_ready : (retention moment : ℕ) (to : Place) (rows sources : List Row) (there : Opening) (bytes : List ℕ) (done : List RowChange) (pairs : List NamePair)
     → opened retention moment (own_key to) to.generation rows ≡ Ok there → concatenation (total rows) (bytes_at there.target rows) sources ≡ Ok bytes
     → done ≡ row_changes_of there (moment_of moment) bytes → pairs ≡ pairs_to there.target sources
@@ -297,7 +297,7 @@ pub append_ready : (retention moment : ℕ) (to : Place) (rows sources : List Ro
 append_ready retention moment to rows sources there bytes done pairs opens pours is told =
     rw (is, told, changes_opened rows there.target there.new (moment_of moment) bytes) (rw (opens, pours) refl)
 
--- what refuses the file that is put behind, or the bytes, refuses the plan
+-- what refuses the file that is put after, or the bytes, refuses the plan
 pub append_refused : (retention moment : ℕ) (to : Place) (rows sources : List Row) (code : Code)
     → opened retention moment (own_key to) to.generation rows ≡ Err code → appended retention moment to sources rows ≡ Err code
 append_refused retention moment to rows sources code opens = rw opens refl

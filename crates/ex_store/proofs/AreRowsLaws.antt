@@ -12,14 +12,14 @@ use Rattle.std.proofs.lemmas.Bool.{and_from, and_parts, not-true, not_from_false
 use Rattle.std.proofs.lemmas.Cmp.{nat_cmp_total, on_total, then_total}
 use Rattle.cm_lists.proofs.Ascents.{above_chain, all_above, is_lt_turned, is_sorted}
 use Rattle.cm_lists.proofs.Numbers.{is_eq-nat_cmp}
-use Rattle.cm_files.specs.Catalogue.{ascends}
+use Rattle.cm_lists.specs.Ascent.{ascends}
 use Rattle.ex_generations.specs.Generations.{has, is_generation}
 use Rattle.ex_generations.specs.Retention.{live}
 use Rattle.ex_store.specs.declared.key.FullName.{FullName}
 use Rattle.ex_store.specs.declared.key.Key.{Key}
 use Rattle.ex_store.specs.declared.row.Row.{Row}
 use Rattle.ex_store.specs.Rows.{added, by_full, by_key, by_row, files_of, full_of, inserted, is_full, is_of, kept_newest, with_mark}
-use Rattle.ex_store.proofs.AscendsLaws.{ascends_sorted, sorted_ascends}
+use Rattle.cm_lists.proofs.Ascents.{ascends_sorted, sorted_ascends}
 
 pub by_key_total : IsTotalOrder by_key
 by_key_total =
@@ -53,21 +53,21 @@ sorted_inserted : (row : Row) (rows : List Row) → is_absent (full_of row) rows
     → is_sorted by_row (inserted row rows) ≡ true
 sorted_inserted row [] absent sorted = refl
 sorted_inserted row (other ∷ rows) absent sorted =
-    by (is_lt (by_row other row)) refl (sorted_inserted row rows parts.1 behind.1)
+    by (is_lt (by_row other row)) refl (sorted_inserted row rows parts.1 after.1)
   where
     parts : (not (is_full (full_of row) other) ≡ true) × (is_absent (full_of row) rows ≡ true)
     parts = and_parts _ _ absent
 
-    behind : (all_above by_row other rows ≡ true) × (is_sorted by_row rows ≡ true)
-    behind = and_parts _ _ sorted
+    after : (all_above by_row other rows ≡ true) × (is_sorted by_row rows ≡ true)
+    after = and_parts _ _ sorted
 
     by : (b : Bool) → is_lt (by_row other row) ≡ b → is_sorted by_row (inserted row rows) ≡ true
         → is_sorted by_row (cond b (other ∷ inserted row rows) (row ∷ other ∷ rows)) ≡ true
     by true less rest =
-        and_from _ _ (all_inserted (λ each. is_lt (by_row other each)) row rows less behind.0) rest
+        and_from _ _ (all_inserted (λ each. is_lt (by_row other each)) row rows less after.0) rest
     by false less rest =
         let above = is_lt_turned by_row by_row_total other row less (not-true _ parts.0) in
-        and_from _ _ (and_from _ _ above (above_chain by_row by_row_total row other rows above behind.0)) sorted
+        and_from _ _ (and_from _ _ above (above_chain by_row by_row_total row other rows above after.0)) sorted
 
 -- a test that does not look at marks
 all_kept : (test : Row → Bool) → ((row : Row) → test (with_mark true row) ≡ test row) → (retention : ℕ) (key : Key) (rows : List Row)

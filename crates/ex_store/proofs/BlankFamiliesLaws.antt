@@ -7,7 +7,8 @@ use Rattle.std.specs.Ordering.{is_eq, is_lt}
 use Rattle.std.proofs.lemmas.Bool.{and_from, and_parts}
 use Rattle.std.proofs.lemmas.List.{drop_more}
 use Rattle.cm_lists.proofs.Ascents.{is_sorted}
-use Rattle.cm_files.specs.Catalogue.{ascends, by_bytes}
+use Rattle.cm_lists.specs.Ascent.{ascends}
+use Rattle.cm_files.specs.Catalogue.{by_bytes}
 use Rattle.ex_generations.specs.declared.file.File.{File}
 use Rattle.ex_generations.specs.Generations as generations
 use Rattle.ex_store.specs.declared.family.Family.{Family}
@@ -15,7 +16,7 @@ use Rattle.ex_store.specs.declared.key.Key.{Key}
 use Rattle.ex_store.specs.declared.row.Row.{Row}
 use Rattle.ex_store.specs.Families.{by_family, is_under_either, row_under, rows_of, rows_under}
 use Rattle.ex_store.specs.Rows.{blank, by_key, is_in_either, rows_in_either}
-use Rattle.ex_store.proofs.AscendsLaws.{ascends_map, ascends_sorted, sorted_ascends}
+use Rattle.cm_lists.proofs.Ascents.{ascends_map, ascends_sorted, sorted_ascends}
 use Rattle.ex_store.proofs.AreRowsLaws.{by_key_total}
 
 pub blank_under : (key : Key) (own : List File) → map (row_under key) (map generations.blank own) ≡ map blank (map (row_under key) own)

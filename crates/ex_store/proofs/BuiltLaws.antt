@@ -13,7 +13,8 @@ use Rattle.cm_lists.proofs.Positions.{find_any}
 use Rattle.cm_lists.proofs.Quantifiers.{all_weaker}
 use Rattle.cm_fields.specs.declared.code.Code.{Code}
 use Rattle.cm_fields.specs.declared.code.Code.TheVariants.{DirLimit}
-use Rattle.cm_files.specs.Catalogue.{ascends, by_bytes, is_directory_name}
+use Rattle.cm_lists.specs.Ascent.{ascends, insertion}
+use Rattle.cm_files.specs.Catalogue.{by_bytes, is_directory_name}
 use Rattle.ex_store.specs.declared.directory.Definition.{Definition}
 use Rattle.ex_store.specs.declared.directory.Directory.{Directory}
 use Rattle.ex_store.specs.declared.limits.TheConstants.{DIRECTORY_LIMIT, RETENTION_LIMIT}
@@ -21,13 +22,12 @@ use Rattle.ex_store.specs.declared.plan.Plan.TheVariants as plans
 use Rattle.ex_store.specs.declared.queue.QueueEntry.{QueueEntry}
 use Rattle.ex_store.specs.declared.row.Row.{Row}
 use Rattle.ex_store.specs.Building.{built, by_directory, new_retention, with_directory}
-use Rattle.ex_store.specs.Insertion.{insertion}
 use Rattle.ex_store.specs.Plan.{planned}
 use Rattle.ex_store.specs.Ready.{Change, applied, done_on, of_directory}
 use Rattle.ex_store.specs.State.{State, has_directory, is_named, retention_of}
 use Rattle.ex_store.specs.WellFormed.{IsWellFormed, is_definition_among, is_directory, is_entry_among, is_row_among}
-use Rattle.ex_store.proofs.AscendsLaws.{ascends_map}
-use Rattle.ex_store.proofs.InsertionLaws.{inserted_all, inserted_ascends, inserted_length}
+use Rattle.cm_lists.proofs.Ascents.{ascends_map}
+use Rattle.cm_lists.proofs.Insertions.{inserted_all, inserted_ascends, inserted_length}
 
 -- the directory of a name keeps as many generations
 abbrev pub kept_as : List ℕ → ℕ → Directory → Directory

@@ -12,7 +12,8 @@ use Rattle.cm_lists.proofs.Ascents.{all_above, is_sorted}
 use Rattle.cm_lists.proofs.Numbers.{nat_cmp-one_add, nat_cmp_one_add_zero, nat_cmp_zero_one_add}
 use Rattle.cm_lists.proofs.Orders.{is_lt-true, then_grouped}
 use Rattle.cm_lists.proofs.Quantifiers.{all_map}
-use Rattle.cm_files.specs.Catalogue.{IsCatalogue, ascends, by_bytes, by_file, is_directory_name, is_logical, is_row}
+use Rattle.cm_lists.specs.Ascent.{ascends}
+use Rattle.cm_files.specs.Catalogue.{IsCatalogue, by_bytes, by_file, is_directory_name, is_logical, is_row}
 use Rattle.cm_files.proofs.LogicalNames.{short_name}
 use Rattle.cm_files.proofs.RowOrder.{text_itself}
 use Rattle.ex_store.specs.declared.directory.Definition.{Definition}
@@ -22,7 +23,7 @@ use Rattle.ex_store.specs.Building.{by_directory}
 use Rattle.ex_store.specs.Rows.{by_row}
 use Rattle.ex_store.specs.State.{State, catalogue_of, file_row, has_directory, is_named, logical_name, number_of}
 use Rattle.ex_store.specs.WellFormed.{IsWellFormed, is_definition_among, is_directory, is_row_among}
-use Rattle.ex_store.proofs.AscendsLaws.{ascends_map, sorted_ascends}
+use Rattle.cm_lists.proofs.Ascents.{ascends_map, sorted_ascends}
 use Rattle.ex_store.proofs.BuiltLaws.{by_directory_total}
 
 pub named : (name : List ℕ) (directory : Directory) → is_named name directory ≡ true → directory.name ≡ name

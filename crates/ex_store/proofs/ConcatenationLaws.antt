@@ -1,4 +1,4 @@
--- Bytes are put behind those of a file, source by source.
+-- Bytes are put after those of a file, source by source.
 use Rattle.std.proofs.Common.{◌≡◌, ℕ, ◌+◌, ◌≤◌, Bool, true, false, cond, List, [], ◌∷◌, ◌++◌, length, length-append, Ok, Err, refl, sym, ap, arith, subst}
 use Rattle.std.proofs.lemmas.Bool.{ltb-false}
 use Rattle.cm_fields.specs.declared.code.Code.{Code}

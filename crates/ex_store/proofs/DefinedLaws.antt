@@ -1,4 +1,4 @@
--- A logical name is defined: what is well formed stays so, and what the plan comes to.
+-- A logical name is defined: what is well formed stays so, and the outcome of the plan.
 use Rattle.std.proofs.Common.{◌≡◌, ℕ, ◌<◌, ◌≤◌, nat_le, Bool, true, false, not, cond, ◌&&◌, List, [], ◌∷◌, length, map, codes, Ok, Err, refl, ap, sym, subst, ◌∙◌, arith}
 use Rattle.std.specs.Char.{is_ascii_lowercase, to_ascii_lowercase, to_ascii_uppercase}
 use Rattle.std.specs.Cmp.{Equal-is, IsTotalOrder}
@@ -18,7 +18,8 @@ use Rattle.cm_text.specs.Bytes.{is_name, is_word}
 use Rattle.cm_text.specs.Case.{equals}
 use Rattle.cm_text.specs.declared.name.TheConstants.{NAME_LIMIT}
 use Rattle.cm_text.proofs.Ascii.{name_bytes_are_ascii}
-use Rattle.cm_files.specs.Catalogue.{ascends, by_bytes, is_upper_name}
+use Rattle.cm_lists.specs.Ascent.{ascends, insertion}
+use Rattle.cm_files.specs.Catalogue.{by_bytes, is_upper_name}
 use Rattle.cm_files.specs.LogicalName.{begins_with_letter, is_logical_name}
 use Rattle.ex_store.specs.declared.directory.Definition.{Definition}
 use Rattle.ex_store.specs.declared.directory.Directory.{Directory}
@@ -27,13 +28,12 @@ use Rattle.ex_store.specs.declared.plan.Plan.TheVariants as plans
 use Rattle.ex_store.specs.declared.queue.QueueEntry.{QueueEntry}
 use Rattle.ex_store.specs.Defining.{by_definition, definition_of, redirection, with_definition}
 use Rattle.ex_store.specs.Entries.{is_kept, is_kept_name}
-use Rattle.ex_store.specs.Insertion.{insertion}
 use Rattle.ex_store.specs.Plan.{planned}
 use Rattle.ex_store.specs.Ready.{Change, applied, done_on, of_definition}
 use Rattle.ex_store.specs.State.{State, has_definition, has_directory}
 use Rattle.ex_store.specs.WellFormed.{IsWellFormed, is_definition_among}
-use Rattle.ex_store.proofs.AscendsLaws.{ascends_map}
-use Rattle.ex_store.proofs.InsertionLaws.{inserted_all, inserted_ascends, inserted_length}
+use Rattle.cm_lists.proofs.Ascents.{ascends_map}
+use Rattle.cm_lists.proofs.Insertions.{inserted_all, inserted_ascends, inserted_length}
 
 -- the parts of what a logical name is
 record IsLogical (name : List ℕ) : Type 0 where

@@ -78,14 +78,14 @@ pub entry_is_short : (directories : List Directory) (queue : List QueueEntry) (e
     → list_all (is_entry_among directories) (queue ++ entry ∷ []) ≡ true → AreShort entry
 entry_is_short directories queue entry within all =
     let is = all_last (is_entry_among directories) queue entry all in
-    let behind = and_first _ _ (and_first _ _ is) in
-    let named = and_first _ _ (and_first _ _ (and_first _ _ (and_first _ _ (and_first _ _ (and_first _ _ behind))))) in
+    let after = and_first _ _ (and_first _ _ is) in
+    let named = and_first _ _ (and_first _ _ (and_first _ _ (and_first _ _ (and_first _ _ (and_first _ _ after))))) in
     record {
       file = record {
         directory = name_is_short entry.file.key.directory directories within (and_first _ _ (and_first _ _ named));
         name = file_name_is_short entry.file.key.name (and_second _ _ (and_first _ _ named));
         kind = file_type_is_short entry.file.key.kind (and_second _ _ named);
       };
-      job = file_name_is_short entry.job (and_second _ _ behind);
+      job = file_name_is_short entry.job (and_second _ _ after);
       note = short entry.note (and_second _ _ (and_first _ _ is));
     }

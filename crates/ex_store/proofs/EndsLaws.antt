@@ -1,4 +1,4 @@
--- Where the files of a directory end: where those of the next begin, and behind the last are no others.
+-- Where the files of a directory end: where those of the next begin, and after the last are no others.
 -- firsts is an equation in the invariant (IsStore), which one function makes anew after a change. A directory's files
 -- end where the next one's begin, by number_order.
 use Rattle.std.proofs.Common.{◌≡◌, ◌<◌, ◌≤◌, ◌+◌, ◌∷◌, ℕ, Bool, true, cond, zero, suc, List, [], length, Option, Some, None, refl, ap, arith, ◌∙◌, sym}
@@ -16,7 +16,7 @@ use Rattle.ex_store.specs.Building.{by_directory}
 use Rattle.ex_store.specs.Rows.{end_in, first_in}
 use Rattle.ex_store.specs.State.{State, firsts_in, number_of}
 use Rattle.ex_store.specs.WellFormed.{IsWellFormed, is_row_among}
-use Rattle.ex_store.proofs.AscendsLaws.{sorted_ascends}
+use Rattle.cm_lists.proofs.Ascents.{sorted_ascends}
 use Rattle.ex_store.proofs.BuiltLaws.{by_directory_total}
 use Rattle.ex_store.proofs.CatalogueLaws.{directory_there, number_order, number_within}
 use Rattle.ex_store.proofs.RowsInLaws.{number_at}
@@ -46,10 +46,10 @@ last_number m n below = grind (arith, nat_tests)
 -- the rows of a directory end where those of the next begin
 end_below : (state : State) → IsWellFormed state → (n : ℕ) (directory next : Directory) → slice_get state.directories n ≡ Some directory
     → slice_get state.directories (n + 1) ≡ Some next → end_in directory.name state.rows ≡ first_in next.name state.rows
-end_below state well n directory next here behind =
+end_below state well n directory next here after =
     let sorted = sorted_ascends by_directory by_directory_total state.directories well.draft.directories_ascend in
     let own = number_at state.directories n directory sorted here in
-    let other = number_at state.directories (n + 1) next sorted behind in
+    let other = number_at state.directories (n + 1) next sorted after in
     prefix_same (is_row_among state.directories) (λ row. is_le (by_bytes row.key.directory directory.name)) (λ row. is_lt (by_bytes row.key.directory next.name))
     (λ row is.
     let there = directory_there state.directories row is in
@@ -91,9 +91,9 @@ end_next state well n at within starts =
     by : (own : Option Directory) → slice_get state.directories n ≡ own → (next : Option Directory) → slice_get state.directories (n + 1) ≡ next
         → option_map (λ directory. first_in directory.name state.rows) next ≡ Some at
         → option_map (λ directory. end_in directory.name state.rows) own ≡ Some at
-    by own here None behind is = absurd (cc)
-    by None here (Some next) behind is = absurd (nowhere state.directories n (omega (arith, within)) here)
-    by (Some directory) here (Some next) behind is = ap Some (end_below state well n directory next here behind) ∙ is
+    by own here None after is = absurd (cc)
+    by None here (Some next) after is = absurd (nowhere state.directories n (omega (arith, within)) here)
+    by (Some directory) here (Some next) after is = ap Some (end_below state well n directory next here after) ∙ is
 
 -- and that of the last
 end_last : (state : State) → IsWellFormed state → (n : ℕ) → n + 1 ≡ length state.directories

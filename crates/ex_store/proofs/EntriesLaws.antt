@@ -13,15 +13,14 @@ use Rattle.std.proofs.lemmas.Slice.Eq.{bytes_eq-Decides}
 use Rattle.cm_text.specs.declared.name.TheConstants.{NAME_LIMIT}
 use Rattle.std.proofs.lemmas.List.{map-append}
 use Rattle.cm_lists.proofs.Quantifiers.{all_true}
-use Rattle.cm_files.specs.Catalogue.{ascends}
+use Rattle.cm_lists.specs.Ascent.{ascends, insertion}
 use Rattle.indexmap.proofs.MapLemmas.{some_index}
 use Rattle.ex_store.specs.declared.directory.Directory.{Directory}
 use Rattle.ex_store.specs.Building.{by_directory, with_directory}
 use Rattle.ex_store.specs.Entries.{directories_of, directory_entry, is_short}
-use Rattle.ex_store.specs.Insertion.{insertion}
 use Rattle.ex_store.specs.State.{has_directory, is_named, number_of}
-use Rattle.ex_store.proofs.AscendsLaws.{ascends_map}
-use Rattle.ex_store.proofs.InsertionLaws.{inserted_all}
+use Rattle.cm_lists.proofs.Ascents.{ascends_map}
+use Rattle.cm_lists.proofs.Insertions.{inserted_all}
 use Rattle.ex_store.proofs.SortedEntriesLaws.{added_is_new, by_key, entries_with, put}
 
 -- entries ascend as what they stand for

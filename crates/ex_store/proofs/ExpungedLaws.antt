@@ -1,6 +1,7 @@
--- What stays: the rows that are not expunged, and the directories under every plan.
+-- [expunge] What stays: the rows that are not expunged, and the directories under every plan.
 use Rattle.std.proofs.Common.{◌≡◌, ℕ, ◌&&◌, Bool, true, false, not, cond, List, [], ◌++◌, map, Contains, Result, Ok, Err, refl, ap, ◌∙◌, subst}
 use Rattle.std.proofs.lemmas.Bool.{not-true, not_from_false}
+use Rattle.cm_lists.specs.Ascent.{insertion}
 use Rattle.cm_lists.proofs.Filters.{Contains-filter, Contains_of_filter}
 use Rattle.cm_fields.specs.declared.code.Code.{Code}
 use Rattle.ex_store.specs.declared.directory.Definition.{Definition}
@@ -11,7 +12,6 @@ use Rattle.ex_store.specs.declared.queue.QueueEntry.{QueueEntry}
 use Rattle.ex_store.specs.declared.row.Row.{Row}
 use Rattle.ex_store.specs.Adding.{Outcome, and_then}
 use Rattle.ex_store.specs.Building.{built, by_directory, with_directory}
-use Rattle.ex_store.specs.Insertion.{insertion}
 use Rattle.ex_store.specs.Defining.{definition_of, with_definition}
 use Rattle.ex_store.specs.Plan.{Planned, planned, sources, with_rows}
 use Rattle.ex_store.specs.Printing.{entries_for, own_pairs}

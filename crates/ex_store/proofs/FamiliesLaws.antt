@@ -17,7 +17,7 @@ use Rattle.cm_lists.proofs.Orders.{lt_is_not_gt}
 use Rattle.cm_lists.proofs.Places.{rises, rises_sorted}
 use Rattle.cm_lists.proofs.Positions.{none_from_position}
 use Rattle.cm_lists.proofs.Quantifiers.{all_weaker}
-use Rattle.cm_files.specs.Catalogue.{ascends}
+use Rattle.cm_lists.specs.Ascent.{ascends}
 use Rattle.ex_generations.specs.declared.file.File.{File}
 use Rattle.ex_generations.specs.Generations.{rewritten}
 use Rattle.ex_store.specs.declared.family.Family.{Family}
@@ -27,10 +27,10 @@ use Rattle.ex_store.specs.declared.row.Row.{Row}
 use Rattle.ex_store.specs.Appending.{bytes_at}
 use Rattle.ex_store.specs.Families.{by_family, is_under, demand_at, room_at, rooms_of, row_under, rows_of, rows_under}
 use Rattle.ex_store.specs.Rows.{added, by_key, by_row, filled, files_of, inserted, is_full, is_of, kept_newest, row_at, without}
-use Rattle.ex_store.proofs.AscendsLaws.{ascends_map, sorted_ascends}
+use Rattle.cm_lists.proofs.Ascents.{ascends_map, sorted_ascends}
 use Rattle.ex_store.proofs.AreRowsLaws.{by_key_total}
 use Rattle.ex_store.proofs.KeptLaws.{files_none, files_upper, kept_lower, kept_upper, none_of}
-use Rattle.ex_store.proofs.InsertionLaws.{inserted_ascends, inserted_there}
+use Rattle.cm_lists.proofs.Insertions.{inserted_ascends, inserted_there}
 use Rattle.ex_store.proofs.FamilyLaws.{files_of_under, key_is}
 
 pub by_name_total : IsTotalOrder by_family
@@ -115,7 +115,7 @@ none_below key rows all = all_weaker (is_below key) (λ row. not (is_of key row)
 none_above : (key : Key) (rows : List Row) → list_all (is_above key) rows ≡ true → none_of key rows ≡ true
 none_above key rows all = all_weaker (is_above key) (λ row. not (is_of key row)) (λ row is. above_none (by_key row.key key) is) rows all
 
--- a row is added behind those below its key, and before those above it
+-- a row is added after those below its key, and before those above it
 then_less : (o p : Ordering) → is_lt o ≡ true → is_lt (ordering_then o p) ≡ true
 then_less Less p is = refl
 then_less Equal p is = absurd (cc)

@@ -10,7 +10,8 @@ use Rattle.std.proofs.lemmas.Bool.{and_from, and_parts, eqb-true, ne_eqb, or_par
 use Rattle.std.proofs.lemmas.Bool.Decides.{nat_tests}
 use Rattle.std.proofs.lemmas.Map.Lookups.{exact_bytes}
 use Rattle.cm_lists.proofs.Ascents.{all_above, is_sorted}
-use Rattle.cm_files.specs.Catalogue.{ascends, by_bytes}
+use Rattle.cm_lists.specs.Ascent.{ascends}
+use Rattle.cm_files.specs.Catalogue.{by_bytes}
 use Rattle.ex_generations.specs.declared.file.File.{File}
 use Rattle.ex_generations.specs.declared.file.TheConstants.{FILE_LIMIT}
 use Rattle.ex_generations.specs.Generations.{IsAscending, has, is_generation, unmarked}
@@ -23,7 +24,7 @@ use Rattle.cm_fields.specs.declared.value.Gen.TheVariants as gens
 use Rattle.ex_store.specs.Appending.{bytes_at, found}
 use Rattle.ex_store.specs.Families.{row_under}
 use Rattle.ex_store.specs.Rows.{added, by_key, by_row, filled, files, files_of, is_full, is_of, row_at, without}
-use Rattle.ex_store.proofs.AscendsLaws.{ascends_sorted}
+use Rattle.cm_lists.proofs.Ascents.{ascends_sorted}
 use Rattle.ex_store.proofs.AreRowsLaws.{all_added, by_key_total, full_parts}
 use Rattle.ex_store.proofs.FilesOfLaws.{files_added}
 
@@ -249,7 +250,7 @@ bytes_under key generation own =
     by None = refl
     by (Some file) = refl
 
--- of no files none is put behind
+-- of no files none is put after
 pub found_none : (generation : Gen) → found generation [] ≡ Ok None
 found_none gens.Missing = refl
 found_none gens.Highest = refl

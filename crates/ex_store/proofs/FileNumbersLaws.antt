@@ -13,14 +13,15 @@ use Rattle.std.proofs.lemmas.List.{set-append_left, set-append_right, length-app
 use Rattle.cm_lists.proofs.Elements.{slice_get-append_left, slice_get-append_right}
 use Rattle.cm_lists.proofs.Places.{may_follow, parted, rises, rises_sorted}
 use Rattle.cm_lists.proofs.Prefixes.{prefix_len_all, prefix_len_at, prefix_len_none}
-use Rattle.cm_files.specs.Catalogue.{ascends, by_bytes}
+use Rattle.cm_lists.specs.Ascent.{ascends}
+use Rattle.cm_files.specs.Catalogue.{by_bytes}
 use Rattle.ex_generations.specs.declared.file.File.{File}
 use Rattle.ex_store.specs.declared.family.Family.{Family}
 use Rattle.ex_store.specs.declared.limits.TheConstants.{ROW_LIMIT}
 use Rattle.ex_store.specs.declared.row.Row.{Row}
 use Rattle.ex_store.specs.Families.{AreFamilies, IsCounted, by_family, counted, rooms_of, row_under, rows_of, rows_under}
 use Rattle.ex_store.specs.Rows.{by_key}
-use Rattle.ex_store.proofs.AscendsLaws.{ascends_map, sorted_ascends}
+use Rattle.cm_lists.proofs.Ascents.{ascends_map, sorted_ascends}
 use Rattle.ex_store.proofs.FamiliesLaws.{all_append, by_name_total}
 
 -- counting changes neither rows nor keys
@@ -110,18 +111,18 @@ files_before_is families (suc m) end d is within some at =
     omega (arith, here, end_is 0 families m d is (omega arith))
 
 -- ends never fall
-end_behind : (before : ℕ) (families : List Family) (j : ℕ) (d : Family) → IsCounted before families → j < length families
+end_after : (before : ℕ) (families : List Family) (j : ℕ) (d : Family) → IsCounted before families → j < length families
     → before ≤ (get_or families j d).end
-end_behind before [] j d is within = absurd (omega arith)
-end_behind before (family ∷ families) zero d is within = omega (arith, is.0)
-end_behind before (family ∷ families) (suc j) d is within =
-    let rest = end_behind family.end families j d is.1 (omega arith) in omega (arith, is.0, rest)
+end_after before [] j d is within = absurd (omega arith)
+end_after before (family ∷ families) zero d is within = omega (arith, is.0)
+end_after before (family ∷ families) (suc j) d is within =
+    let rest = end_after family.end families j d is.1 (omega arith) in omega (arith, is.0, rest)
 
 ends_rise : (before : ℕ) (families : List Family) (i j : ℕ) (d : Family) → IsCounted before families → i ≤ j → j < length families
     → (get_or families i d).end ≤ (get_or families j d).end
 ends_rise before [] i j d is low within = absurd (omega arith)
 ends_rise before (family ∷ families) zero zero d is low within = omega arith
-ends_rise before (family ∷ families) zero (suc j) d is low within = end_behind family.end families j d is.1 (omega arith)
+ends_rise before (family ∷ families) zero (suc j) d is low within = end_after family.end families j d is.1 (omega arith)
 ends_rise before (family ∷ families) (suc i) zero d is low within = absurd (omega arith)
 ends_rise before (family ∷ families) (suc i) (suc j) d is low within = ends_rise family.end families i j d is.1 (omega arith) (omega arith)
 

@@ -8,7 +8,7 @@ use Rattle.std.proofs.lemmas.Bool.{and_from, and_parts, le-ltb, ltb-true, not-tr
 use Rattle.cm_lists.proofs.Ascents.{above_chain, all_above, is_lt_turned, is_sorted}
 use Rattle.cm_lists.proofs.Numbers.{is_lt-nat_cmp}
 use Rattle.cm_lists.proofs.Orders.{is_eq-true, is_eq_from_reverse}
-use Rattle.cm_files.specs.Catalogue.{ascends}
+use Rattle.cm_lists.specs.Ascent.{ascends}
 use Rattle.ex_generations.specs.declared.file.File.{File}
 use Rattle.ex_generations.specs.Generations.{has, marked_as}
 use Rattle.ex_generations.specs.Generations as generations
@@ -17,7 +17,7 @@ use Rattle.ex_generations.specs.Retention as retaining
 use Rattle.ex_store.specs.declared.key.Key.{Key}
 use Rattle.ex_store.specs.declared.row.Row.{Row}
 use Rattle.ex_store.specs.Rows.{added, by_key, by_row, files_of, full_of, inserted, is_full, is_of, kept_newest, retained, with_mark}
-use Rattle.ex_store.proofs.AscendsLaws.{sorted_ascends}
+use Rattle.cm_lists.proofs.Ascents.{sorted_ascends}
 use Rattle.ex_store.proofs.AreRowsLaws.{absent_has, by_key_total, by_row_total, is_absent}
 
 -- a key is its own
@@ -81,9 +81,9 @@ inserted_first : (file : File) (files : List File) → all_higher file.generatio
 inserted_first file files higher =
     rw (lower_none file.generation files higher, higher_all file.generation files higher)
 
-inserted_behind : (new file : File) (files : List File) → nat_lt file.generation new.generation ≡ true
+inserted_after : (new file : File) (files : List File) → nat_lt file.generation new.generation ≡ true
     → generations.inserted new (file ∷ files) ≡ file ∷ generations.inserted new files
-inserted_behind new file files below =
+inserted_after new file files below =
     let less : file.generation < new.generation = ltb-true file.generation new.generation below in
     rw (below, le-ltb new.generation file.generation (omega (arith, less)))
 
@@ -100,13 +100,13 @@ files_inserted : (row : Row) (rows : List Row) → is_absent (full_of row) rows 
     → files_of row.key (inserted row rows) ≡ generations.inserted row.file (files_of row.key rows)
 files_inserted row [] absent sorted = files_front row [] refl
 files_inserted row (other ∷ rows) absent sorted =
-    by (is_lt (by_row other row)) refl (files_inserted row rows parts.1 behind.1)
+    by (is_lt (by_row other row)) refl (files_inserted row rows parts.1 after.1)
   where
     parts : (not (is_full (full_of row) other) ≡ true) × (is_absent (full_of row) rows ≡ true)
     parts = and_parts _ _ absent
 
-    behind : (all_above by_row other rows ≡ true) × (is_sorted by_row rows ≡ true)
-    behind = and_parts _ _ sorted
+    after : (all_above by_row other rows ≡ true) × (is_sorted by_row rows ≡ true)
+    after = and_parts _ _ sorted
 
     step : (b : Bool) → is_of row.key other ≡ b → is_lt (by_row other row) ≡ true
         → files_of row.key (inserted row rows) ≡ generations.inserted row.file (files_of row.key rows)
@@ -114,7 +114,7 @@ files_inserted row (other ∷ rows) absent sorted =
         ≡ generations.inserted row.file (map (λ (each : Row). each.file) (cond b (other ∷ filter (is_of row.key) rows) (filter (is_of row.key) rows)))
     step true is less rest =
         ap (λ files. other.file ∷ files) rest
-        ∙ sym (inserted_behind row.file other.file (files_of row.key rows) (sym (below_of other row is) ∙ less))
+        ∙ sym (inserted_after row.file other.file (files_of row.key rows) (sym (below_of other row is) ∙ less))
     step false is less rest = rest
 
     by : (b : Bool) → is_lt (by_row other row) ≡ b
@@ -123,7 +123,7 @@ files_inserted row (other ∷ rows) absent sorted =
     by true less rest = step (is_of row.key other) refl less rest
     by false less rest =
         let above : is_lt (by_row row other) ≡ true = is_lt_turned by_row by_row_total other row less (not-true _ parts.0) in
-        files_front row (other ∷ rows) (and_from _ _ above (above_chain by_row by_row_total row other rows above behind.0))
+        files_front row (other ∷ rows) (and_from _ _ above (above_chain by_row by_row_total row other rows above after.0))
 
 files_kept : (retention : ℕ) (key : Key) (rows : List Row)
     → files_of key (kept_newest retention key rows) ≡ retaining.kept_newest retention (files_of key rows)

@@ -17,16 +17,16 @@ use Rattle.cm_lists.proofs.Positions.{find_any}
 use Rattle.cm_text.specs.Bytes.{is_name, is_word}
 use Rattle.cm_text.specs.Case.{equals}
 use Rattle.cm_text.specs.declared.name.TheConstants.{NAME_LIMIT}
-use Rattle.cm_files.specs.Catalogue.{ascends, is_upper_name}
+use Rattle.cm_lists.specs.Ascent.{ascends, insertion}
+use Rattle.cm_files.specs.Catalogue.{is_upper_name}
 use Rattle.ex_store.specs.declared.directory.Definition.{Definition}
 use Rattle.ex_store.specs.Defining.{by_definition, redirection, with_definition}
 use Rattle.ex_store.specs.Entries.{definition_entry, definitions_of, directory_for, is_kept, is_kept_name}
-use Rattle.ex_store.specs.Insertion.{insertion}
 use Rattle.ex_store.specs.State.{has_definition}
-use Rattle.ex_store.proofs.AscendsLaws.{ascends_map, sorted_ascends}
+use Rattle.cm_lists.proofs.Ascents.{ascends_map, sorted_ascends}
 use Rattle.ex_store.proofs.DefinedLaws.{redirected_name}
 use Rattle.ex_store.proofs.EntriesLaws.{made_map}
-use Rattle.ex_store.proofs.InsertionLaws.{inserted_all}
+use Rattle.cm_lists.proofs.Insertions.{inserted_all}
 use Rattle.ex_store.proofs.SortedEntriesLaws.{added_is_new, apart_back, by_key, by_key_total, entries_with}
 
 up_byte : (byte : ℕ) → (is_name byte && not (is_ascii_lowercase byte)) ≡ true → to_ascii_uppercase byte ≡ byte

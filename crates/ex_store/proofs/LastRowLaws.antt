@@ -1,4 +1,4 @@
--- A row that goes behind all others.
+-- A row that goes after all others.
 use Rattle.std.proofs.Common.{◌≡◌, ◌&&◌, Bool, true, false, cond, List, [], ◌∷◌, ◌++◌, map, filter, refl, ap, ◌∙◌, sym}
 use Rattle.std.specs.List.{list_all, list_any}
 use Rattle.std.specs.Ordering.{is_eq, is_lt}
@@ -6,14 +6,14 @@ use Rattle.std.proofs.lemmas.Bool.{and_from, and_parts}
 use Rattle.cm_lists.proofs.Ascents.{all_above, is_sorted}
 use Rattle.cm_lists.proofs.Bools.{second_of_no_and}
 use Rattle.cm_lists.proofs.Orders.{is_lt-true}
-use Rattle.cm_files.specs.Catalogue.{ascends}
+use Rattle.cm_lists.specs.Ascent.{ascends}
 use Rattle.ex_generations.specs.Generations.{has, is_generation}
 use Rattle.ex_store.specs.declared.row.Row.{Row}
 use Rattle.ex_store.specs.Rows.{added, by_row, files_of, full_of, inserted, is_full, is_of}
-use Rattle.ex_store.proofs.AscendsLaws.{sorted_ascends}
+use Rattle.cm_lists.proofs.Ascents.{sorted_ascends}
 use Rattle.ex_store.proofs.AreRowsLaws.{by_row_total, full_parts}
 
--- a row behind all others is added there
+-- a row after all others is added there
 none_full : (row other : Row) → is_lt (by_row other row) ≡ true → is_full (full_of row) other ≡ false
 none_full row other less = ap is_eq (is_lt-true (by_row other row) less)
 

@@ -1,4 +1,4 @@
--- What is made of the sources of a plan is what the plan makes of the state.
+-- [plan] What is made of the sources of a plan is what the plan makes of the state.
 -- Appending nothing does not compute away: one lemma for each form of change (changes_files, makes, defines), by
 -- append-nil. planned and is_selected_by are unfoldable.
 use Rattle.std.proofs.Common.{◌≡◌, ℕ, true, List, Option, Result, Ok, Err, refl, ap, subst, sym, ◌∙◌}

@@ -25,11 +25,11 @@ source_at rows positions i at row all within is_at is_row =
     }
 
 -- the elements at the places of those that pass are those that pass
-elements_behind : {X : Type 0} (test : X → Bool) (front : List X) (xs : List X)
+elements_after : {X : Type 0} (test : X → Bool) (front : List X) (xs : List X)
     → elements_at (front ++ xs) (positions_from test (length front) xs) ≡ filter test xs
-elements_behind test front [] = refl
-elements_behind test front (x ∷ xs) =
-    by (test x) (rw (moved, ← longer) (elements_behind test (front ++ x ∷ []) xs))
+elements_after test front [] = refl
+elements_after test front (x ∷ xs) =
+    by (test x) (rw (moved, ← longer) (elements_after test (front ++ x ∷ []) xs))
   where
     moved : front ++ x ∷ xs ≡ (front ++ x ∷ []) ++ xs
     moved = sym (append_assoc front (x ∷ []) xs)
@@ -47,4 +47,4 @@ elements_behind test front (x ∷ xs) =
     by false rest = rest
 
 pub elements_filter : {X : Type 0} (test : X → Bool) (xs : List X) → elements_at xs (positions_from test 0 xs) ≡ filter test xs
-elements_filter test xs = elements_behind test [] xs
+elements_filter test xs = elements_after test [] xs

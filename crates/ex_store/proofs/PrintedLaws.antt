@@ -1,4 +1,4 @@
--- Files are queued for printing: what is well formed stays so, and what the plan comes to.
+-- Files are queued for printing: what is well formed stays so, and the outcome of the plan.
 -- A loop over places that maps is made_more.
 use Rattle.std.proofs.Common.{◌≡◌, ℕ, ◌+◌, ◌≤◌, nat_lt, nat_le, Bool, true, false, cond, List, [], ◌∷◌, ◌++◌, length, map, unwrap_or, Option, Some, None, Result, Ok, Err, refl, ap, sym, subst, ◌∙◌, arith, append_assoc, length-append}
 use Rattle.std.specs.List.{list_all}

@@ -22,7 +22,7 @@ use Rattle.ex_store.specs.Rows.{by_full, by_row, expunged, first_in, full_of, is
 use Rattle.ex_store.specs.State.{State, firsts_in, retention_of}
 use Rattle.ex_store.specs.WellFormed.{AreRows, IsDraft, IsWellFormed, is_directory, is_remark, is_row_among, is_stamped}
 use Rattle.ex_store.proofs.AllCopiedLaws.{formed, formed_is}
-use Rattle.ex_store.proofs.AscendsLaws.{ascends_filter, ascends_map}
+use Rattle.cm_lists.proofs.Ascents.{ascends_filter, ascends_map}
 use Rattle.ex_store.proofs.BuiltLaws.{retention_within}
 use Rattle.ex_store.proofs.TotalLaws.{total_cons}
 use Rattle.ex_store.proofs.AreRowsLaws.{by_row_total}
@@ -50,12 +50,12 @@ changed_more change xs positions i at d within is below =
     ap (λ changed. all_changed_at change changed (drop (i + 1) positions)) (sym (changed_is_set change xs at d below))
     ∙ ap (all_changed_at change xs) (sym first)
 
--- the element behind those that are passed is changed
-changed_behind : {X : Type 0} (change : X → X) (front : List X) (x : X) (xs : List X)
+-- the element after those that are passed is changed
+changed_after : {X : Type 0} (change : X → X) (front : List X) (x : X) (xs : List X)
     → changed_at change (front ++ x ∷ xs) (length front) ≡ front ++ change x ∷ xs
-changed_behind change [] x xs = refl
-changed_behind change (y ∷ front) x xs =
-    rw (next_one (length front)) (ap (λ rest. y ∷ rest) (changed_behind change front x xs))
+changed_after change [] x xs = refl
+changed_after change (y ∷ front) x xs =
+    rw (next_one (length front)) (ap (λ rest. y ∷ rest) (changed_after change front x xs))
 
 -- an element more is passed
 passed : {X : Type 0} (front : List X) (x : X) (xs : List X) → (front ++ x ∷ []) ++ xs ≡ front ++ x ∷ xs
@@ -91,7 +91,7 @@ changed_from test change front (x ∷ xs) =
         (cond passes (length front ∷ positions_from test (length front + 1) xs) (positions_from test (length front + 1) xs))
         ≡ front ++ cond passes (change x) x ∷ map (where_passing test change) xs
     by true changed kept =
-        ap (λ rows. all_changed_at change rows (positions_from test (length front + 1) xs)) (changed_behind change front x xs ∙ sym (passed front (change x) xs))
+        ap (λ rows. all_changed_at change rows (positions_from test (length front + 1) xs)) (changed_after change front x xs ∙ sym (passed front (change x) xs))
         ∙ (ap (λ n. all_changed_at change ((front ++ change x ∷ []) ++ xs) (positions_from test n xs)) (sym (counted front (change x)))
         ∙ (changed ∙ passed front (change x) (map (where_passing test change) xs)))
     by false changed kept =
@@ -131,7 +131,7 @@ length-positions_from test at (x ∷ xs) = by (test x) (length-positions_from te
     by true rest = ap suc rest
     by false rest = rest
 
--- what each keeps behind a change, all keep
+-- what each keeps after a change, all keep
 all_changed : {X : Type 0} (test : X → Bool) (change : X → X) → ((x : X) → test x ≡ true → test (change x) ≡ true) → (xs : List X)
     → list_all test xs ≡ true → list_all test (map change xs) ≡ true
 all_changed test change keeps [] all = refl

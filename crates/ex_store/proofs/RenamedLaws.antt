@@ -4,7 +4,7 @@ use Rattle.std.specs.Option.{option_map}
 use Rattle.std.specs.List.{list_all}
 use Rattle.std.proofs.lemmas.Bool.{and_parts}
 use Rattle.std.proofs.lemmas.Bool.Decides.{nat_tests}
-use Rattle.cm_files.specs.Catalogue.{ascends}
+use Rattle.cm_lists.specs.Ascent.{ascends}
 use Rattle.cm_fields.specs.declared.code.Code.{Code}
 use Rattle.ex_generations.specs.declared.file.TheConstants.{FILE_LIMIT}
 use Rattle.ex_store.specs.declared.directory.Directory.{Directory}
@@ -26,7 +26,7 @@ use Rattle.ex_store.specs.Renaming.{AreDistinct, pair_for, renamed}
 use Rattle.ex_store.specs.Rows.{added, blank, by_row, files_of, full_of, is_in, row_at, total, rows_in_either, with_name, without}
 use Rattle.ex_store.specs.WellFormed.{AreRows, is_row_among}
 use Rattle.ex_store.proofs.AdmittedLaws.{IsRoomy, and_then_ok, counted_target, numbered_free, rows_added}
-use Rattle.ex_store.proofs.AscendsLaws.{sorted_ascends}
+use Rattle.cm_lists.proofs.Ascents.{sorted_ascends}
 use Rattle.ex_store.proofs.BlankLaws.{numbered_blank, reinserted_blank, row_at_blank, without_blank}
 use Rattle.ex_store.proofs.DoableLaws.{doable_more}
 use Rattle.ex_store.proofs.AllCopiedLaws.{IsUnderWay, way_start, formed, outcome_at, renamed_formed, rows_after_more}

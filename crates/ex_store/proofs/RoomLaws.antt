@@ -8,13 +8,13 @@ use Rattle.std.specs.Ordering.{is_eq}
 use Rattle.std.proofs.lemmas.Bool.{or_parts}
 use Rattle.std.proofs.lemmas.List.{get_or_default}
 use Rattle.cm_lists.proofs.Positions.{none_from_position}
-use Rattle.cm_files.specs.Catalogue.{ascends}
+use Rattle.cm_lists.specs.Ascent.{ascends}
 use Rattle.ex_store.specs.declared.family.Family.{Family}
 use Rattle.ex_store.specs.declared.key.Key.{Key}
 use Rattle.ex_store.specs.declared.row.Row.{Row}
 use Rattle.ex_store.specs.Families.{HasRoom, EachHasRoom, by_family, is_under, room_at, rooms_of, row_under, rows_of, rows_under, without_demand, demand_at}
 use Rattle.ex_store.specs.Rows.{by_key, files_of}
-use Rattle.ex_store.proofs.AscendsLaws.{ascends_map}
+use Rattle.cm_lists.proofs.Ascents.{ascends_map}
 use Rattle.ex_store.proofs.FamiliesLaws.{IsFirst, files_found, first_found, first_there, first_demand, room_found}
 use Rattle.ex_store.proofs.FamilyLaws.{key_is}
 

@@ -102,9 +102,9 @@ size_after key rows (changes.Fill target moment bytes) = omega (arith, size_fill
 abbrev pub RoomFor : List FamilyRoom → List Row → List RowChange → Type 0
 RoomFor rooms rows changes = (key : Key) → 0 < count_under key changes → length (files_of key rows) + count_under key changes ≤ room_at key rooms
 
-pub room_after : (rooms : List FamilyRoom) (rows : List Row) (change : RowChange) (more : List RowChange)
+pub room_after_change : (rooms : List FamilyRoom) (rows : List Row) (change : RowChange) (more : List RowChange)
     → RoomFor rooms rows (change ∷ more) → RoomFor rooms (rows_after rows change) more
-room_after rooms rows change more room key some =
+room_after_change rooms rows change more room key some =
     let step = size_after key rows change in
     let counted = count_more key change more in
     omega (arith, step, some, counted, room key (omega (arith, some, counted)))
@@ -116,11 +116,11 @@ room_now rooms rows change more key room puts =
     count_more key change more ∙ ap (λ (b : Bool). cond b 1 0 + count_under key more) puts in
     omega (arith, first, room key (omega (arith, first)))
 
-room_behind : (rooms : List FamilyRoom) (rows : List Row) (done more : List RowChange)
+room_after : (rooms : List FamilyRoom) (rows : List Row) (done more : List RowChange)
     → RoomFor rooms rows (done ++ more) → RoomFor rooms (rows_after_all rows done) more
-room_behind rooms rows [] more room = room
-room_behind rooms rows (first ∷ done) more room =
-    room_behind rooms (rows_after rows first) done more (room_after rooms rows first (done ++ more) room)
+room_after rooms rows [] more room = room
+room_after rooms rows (first ∷ done) more room =
+    room_after rooms (rows_after rows first) done more (room_after_change rooms rows first (done ++ more) room)
 
 pub room_turn : (rooms : List FamilyRoom) (rows : List Row) (items done : List RowChange) (change : RowChange)
     → RoomFor rooms rows items
@@ -129,5 +129,5 @@ pub room_turn : (rooms : List FamilyRoom) (rows : List Row) (items done : List R
     → (key : Key) → puts_under key change ≡ true → length (files_of key (rows_after_all rows done)) < room_at key rooms
 room_turn rooms rows items done change room so_far within is key puts =
     room_now rooms (rows_after_all rows done) change (drop (length done + 1) items) key
-    (room_behind rooms rows done (change ∷ drop (length done + 1) items)
+    (room_after rooms rows done (change ∷ drop (length done + 1) items)
     (subst (RoomFor rooms rows) (split_at items done change so_far within is) room)) puts

@@ -10,7 +10,8 @@ use Rattle.cm_lists.proofs.Ascents.{all_above, is_sorted}
 use Rattle.cm_lists.proofs.Filters.{filter_within, find_within}
 use Rattle.cm_lists.proofs.Orders.{is_eq_then_first, is_lt-true, is_lt_from_less}
 use Rattle.cm_lists.proofs.Quantifiers.{all_filter}
-use Rattle.cm_files.specs.Catalogue.{ascends, by_bytes}
+use Rattle.cm_lists.specs.Ascent.{ascends}
+use Rattle.cm_files.specs.Catalogue.{by_bytes}
 use Rattle.cm_files.proofs.RowOrder.{text_itself}
 use Rattle.ex_generations.specs.Retention.{live}
 use Rattle.ex_store.specs.declared.key.FullName.{FullName}
@@ -18,7 +19,7 @@ use Rattle.ex_store.specs.declared.key.Key.{Key}
 use Rattle.ex_store.specs.declared.row.Row.{Row}
 use Rattle.ex_store.specs.Ready.{reinserted}
 use Rattle.ex_store.specs.Rows.{added, by_key, by_row, files_of, inserted, is_full, is_in_either, is_of, kept_newest, row_at, rows_in_either, with_mark, with_name, without}
-use Rattle.ex_store.proofs.AscendsLaws.{sorted_ascends}
+use Rattle.cm_lists.proofs.Ascents.{sorted_ascends}
 use Rattle.ex_store.proofs.AreRowsLaws.{by_row_total}
 
 -- a directory is one of two
@@ -85,11 +86,11 @@ none_below row other (each ∷ rows) not_below above =
     and_from _ _ (by (is_lt (by_row each row)) refl parts.0) (none_below row other rows not_below parts.1)
   where
     by : (b : Bool) → is_lt (by_row each row) ≡ b → is_lt (by_row other each) ≡ true → not b ≡ true
-    by true below behind =
+    by true below after =
         let chain : is_lt (by_row other row) ≡ true =
-        is_lt_from_less _ (by_row_total.trans other each row (is_lt-true _ behind) (is_lt-true _ below)) in
+        is_lt_from_less _ (by_row_total.trans other each row (is_lt-true _ after) (is_lt-true _ below)) in
         absurd (cc)
-    by false below behind = refl
+    by false below after = refl
 
 inserted_filter : (keep : Row → Bool) (row : Row) (rows : List Row) → keep row ≡ true → is_sorted by_row rows ≡ true
     → inserted row (filter keep rows) ≡ filter keep (inserted row rows)

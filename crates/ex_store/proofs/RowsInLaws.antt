@@ -18,7 +18,8 @@ use Rattle.cm_lists.proofs.Orders.{is_lt-true, then_not_gt}
 use Rattle.cm_lists.proofs.Places.{Parts, block_at, block_within, follows_itself, may_follow, parts_of, rises}
 use Rattle.cm_lists.proofs.Quantifiers.{all_at, all_kept}
 use Rattle.cm_files.specs.declared.row.FileRow.{FileRow}
-use Rattle.cm_files.specs.Catalogue.{ascends, by_bytes, rows_of}
+use Rattle.cm_lists.specs.Ascent.{ascends}
+use Rattle.cm_files.specs.Catalogue.{by_bytes, rows_of}
 use Rattle.cm_files.proofs.RowOrder.{text_itself}
 use Rattle.ex_store.specs.declared.directory.Directory.{Directory}
 use Rattle.ex_store.specs.declared.row.Row.{Row}
@@ -27,7 +28,7 @@ use Rattle.ex_store.specs.Building.{by_directory}
 use Rattle.ex_store.specs.Rows.{by_row, end_in, first_in, is_in, rows_in}
 use Rattle.ex_store.specs.State.{State, catalogue_of, file_row, has_directory, is_named, number_of, rows_numbered}
 use Rattle.ex_store.specs.WellFormed.{IsWellFormed, is_row_among}
-use Rattle.ex_store.proofs.AscendsLaws.{sorted_ascends}
+use Rattle.cm_lists.proofs.Ascents.{sorted_ascends}
 use Rattle.ex_store.proofs.BuiltLaws.{by_directory_total}
 use Rattle.ex_store.proofs.CatalogueLaws.{below_name, directory_there, named, number_order}
 use Rattle.ex_store.proofs.AreRowsLaws.{by_row_total}
@@ -48,13 +49,13 @@ text_follows text first second not_above =
     by Less less not_above Equal is =
         let texts : first ≡ text = exact_bytes first text is in
         let below : by_bytes text second ≡ Less = subst (λ each. by_bytes each second ≡ Less) texts less in
-        let behind = nat_list_cmp_total.antisymm second text ∙ ap ordering_reverse below in
-        ap (λ (o : Ordering). not (is_lt o)) behind
+        let after = nat_list_cmp_total.antisymm second text ∙ ap ordering_reverse below in
+        ap (λ (o : Ordering). not (is_lt o)) after
     by Less less not_above Greater is =
         let below : by_bytes text first ≡ Less = nat_list_cmp_total.antisymm text first ∙ ap ordering_reverse is in
         let far = nat_list_cmp_total.trans text first second below less in
-        let behind = nat_list_cmp_total.antisymm second text ∙ ap ordering_reverse far in
-        ap is_gt behind
+        let after = nat_list_cmp_total.antisymm second text ∙ ap ordering_reverse far in
+        ap is_gt after
     by Greater more not_above a is = absurd (cc)
 
 follows_rows : (directory : List ℕ) (row : Row) (rows : List Row) → all_above by_row row rows ≡ true
@@ -170,9 +171,9 @@ positions_none {X} test inside only at (x ∷ xs) all =
     by false is out rest = rest
 
 pub positions_within : {X : Type 0} (test inside : X → Bool) → ((x : X) → test x ≡ true → inside x ≡ true)
-    → (xs middle : List X) (first behind : ℕ) → Parts inside xs middle first behind
+    → (xs middle : List X) (first after : ℕ) → Parts inside xs middle first after
     → positions_from test 0 xs ≡ positions_from test first middle
-positions_within test inside only xs middle first behind parts =
+positions_within test inside only xs middle first after parts =
     let start : 0 + length parts.lower ≡ first = (let e = parts.starts in omega arith) in
     let e1 = positions_append test 0 parts.lower (middle ++ parts.upper) in
     let e2 = positions_none test inside only 0 parts.lower parts.below in

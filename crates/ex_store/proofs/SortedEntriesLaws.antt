@@ -18,14 +18,14 @@ use Rattle.std.proofs.lemmas.List.Sorted.{searchable_from_sorted}
 use Rattle.std.proofs.lemmas.Slice.Eq.{bytes_eq-Decides}
 use Rattle.cm_lists.proofs.Ascents.{all_above, is_sorted, place_by}
 use Rattle.cm_lists.proofs.Orders.{is_lt-true}
-use Rattle.cm_files.specs.Catalogue.{ascends, by_bytes}
+use Rattle.cm_lists.specs.Ascent.{ascends, insertion}
+use Rattle.cm_files.specs.Catalogue.{by_bytes}
 use Rattle.indexmap.specs.Calls.{IsSearchIndex}
 use Rattle.indexmap.specs.IndexMap.{index_before, insert_entry, move_index}
 use Rattle.indexmap.proofs.MoveLemmas.{push_moved}
 use Rattle.indexmap.proofs.SortedLemmas.{absent_pushes, found_stays, move_same}
-use Rattle.ex_store.specs.Insertion.{insertion}
-use Rattle.ex_store.proofs.AscendsLaws.{sorted_ascends}
-use Rattle.ex_store.proofs.InsertionLaws.{inserted_there}
+use Rattle.cm_lists.proofs.Ascents.{sorted_ascends}
+use Rattle.cm_lists.proofs.Insertions.{inserted_there}
 
 -- of two names that stand one below the other, neither is the other
 apart : (name other : List ℕ) → is_lt (by_bytes name other) ≡ true → bytes_eq name other ≡ false
@@ -56,7 +56,7 @@ module _ {V : Type 0} where
       (map (λ entry. cond (bytes_eq entry.0 name) (entry.0, value) entry) entries)
       (insertion by_key (name, value) entries)
 
-  -- what stands behind the others is under a new name
+  -- what stands after the others is under a new name
   last_is_new : (name : List ℕ) (value : V) (entries : List (List ℕ × V))
       → is_sorted by_key (entries ++ (name, value) ∷ []) ≡ true → lookup (bytes_eq name) entries ≡ None
   last_is_new name value [] sorted = refl

@@ -39,7 +39,7 @@ use Rattle.ex_store.proofs.PrintedLaws.{well_formed_printed}
 use Rattle.ex_store.proofs.RemarkLaws.{rows_of_remark, well_formed_with_rows}
 use Rattle.ex_store.proofs.WrittenLaws.{rows_written, written_row}
 
--- a step for one source, behind which the rows are those of a store
+-- a step for one source, after which the rows are those of a store
 abbrev KeepsRows : List Directory → (Row → Outcome → Result Outcome Code) → Type 0
 KeepsRows directories step =
     (source : Row) → (before after : Outcome) → is_row_among directories source ≡ true → AreRows directories before.rows

@@ -13,7 +13,7 @@ use Rattle.ex_store.specs.declared.directory.Definition.{Definition}
 use Rattle.ex_store.specs.declared.directory.Directory.{Directory}
 use Rattle.ex_store.specs.State.{State, first_state, has_directory, is_named}
 use Rattle.ex_store.specs.WellFormed.{IsWellFormed, is_definition_among, is_directory}
-use Rattle.ex_store.proofs.AscendsLaws.{ascends_filter}
+use Rattle.cm_lists.proofs.Ascents.{ascends_filter}
 
 -- the first state is well formed
 pub first_well_formed : IsWellFormed first_state

@@ -9,7 +9,8 @@ use Rattle.std.proofs.lemmas.List.{drop_more}
 use Rattle.std.proofs.lemmas.Bool.Decides.{nat_tests}
 use Rattle.std.proofs.lemmas.List.Sums.{count_by-le-length, length-filter, sum_by-append, sum_by-cons}
 use Rattle.cm_lists.proofs.Numbers.{suc_is_not_zero}
-use Rattle.cm_files.specs.Catalogue.{ascends, by_bytes}
+use Rattle.cm_lists.specs.Ascent.{ascends}
+use Rattle.cm_files.specs.Catalogue.{by_bytes}
 use Rattle.ex_generations.specs.declared.file.File.{File}
 use Rattle.ex_generations.specs.declared.file.TheConstants.{FILE_LIMIT}
 use Rattle.ex_generations.specs.Generations.{marked, page_count, pages, unmarked}
@@ -19,7 +20,7 @@ use Rattle.ex_store.specs.declared.limits.TheConstants.{ROW_LIMIT}
 use Rattle.ex_store.specs.declared.row.Row.{Row}
 use Rattle.ex_store.specs.Families.{by_family, bytes_of, is_under_directory, rooms_of, row_under, rows_of, rows_under}
 use Rattle.ex_store.specs.Rows.{by_key, expunged, is_in, is_short, pages_in, pages_marked, total}
-use Rattle.ex_store.proofs.AscendsLaws.{ascends_filter, ascends_map}
+use Rattle.cm_lists.proofs.Ascents.{ascends_filter, ascends_map}
 use Rattle.ex_store.proofs.FamiliesLaws.{by_name_total}
 use Rattle.ex_store.proofs.FileNumbersLaws.{length_more}
 

@@ -118,7 +118,7 @@ lacks_rows directories name lacks (row ∷ rows) all =
         absurd (both_ways _ lacks (ap (λ each. has_directory each directories) (sym same) ∙ there))
     by false is there rest = rest
 
--- where the first of a list is that passes, and the positions behind it
+-- where the first of a list is that passes, and the positions after it
 record Found {X : Type 0} (test : X → Bool) (at : ℕ) (xs : List X) (i : ℕ) : Type 0 where
   passed : ℕ
   is : i ≡ at + passed
@@ -170,7 +170,7 @@ found_none {X} test at (x ∷ xs) is first = by (test x) is (λ later. found_non
     by true is rest = absurd (cc)
     by false is rest = rest is
 
--- the walk that collects the positions of what passes, of a list that stands behind so many others
+-- the walk that collects the positions of what passes, of a list that stands after so many others
 pub record Collects {X : Type 0} (test : X → Bool) (first : ℕ) (xs : List X) (items : List ℕ) (from : ℕ) : Type 0 where
   pub walk : items ++ positions_from test (first + from) (drop from xs) ≡ positions_from test first xs
   pub few : length items ≤ from
@@ -212,10 +212,10 @@ collects_more test first xs items more from i so_far is pushed =
     let same : from + suc next.passed ≡ i + 1 = omega arith in
     let left : drop (suc next.passed) (drop from xs) ≡ drop (i + 1) xs =
     drop-drop (suc next.passed) from xs ∙ ap (λ (k : ℕ). drop k xs) same in
-    let behind = positions_from test (first + (i + 1)) (drop (i + 1) xs) in
+    let after = positions_from test (first + (i + 1)) (drop (i + 1) xs) in
     record {
-      walk = ap (λ front. front ++ behind) pushed
-          ∙ append_assoc items ((first + i) ∷ []) behind
+      walk = ap (λ front. front ++ after) pushed
+          ∙ append_assoc items ((first + i) ∷ []) after
           ∙ ap (λ rest. items ++ ((first + i) ∷ positions_from test (first + (i + 1)) rest)) (sym left)
           ∙ ap (λ rest. items ++ rest) (sym (next.all first))
           ∙ so_far.walk;

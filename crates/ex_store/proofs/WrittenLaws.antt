@@ -1,4 +1,4 @@
--- A file is written: the row that is added, and what the plan comes to.
+-- A file is written: the row that is added, and the outcome of the plan.
 use Rattle.std.proofs.Common.{◌≡◌, ℕ, nat_le, Bool, true, false, not, cond, List, [], ◌∷◌, length, unwrap_or, Result, Ok, Err, Option, Some, None, refl, ap, sym, subst, ◌∙◌}
 use Rattle.std.proofs.lemmas.Bool.{and_from, le-leb, or_parts}
 use Rattle.cm_lists.proofs.Bools.{second_of_or}

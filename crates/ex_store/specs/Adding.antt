@@ -20,7 +20,7 @@ abbrev pub and_then : {A B : Type 0} → (A → Result B Code) → Result A Code
 and_then next (Ok value) = next value
 and_then next (Err code) = Err code
 
--- the generation behind the highest of these, deleted ones included
+-- the generation after the highest of these, deleted ones included
 abbrev pub next_of : List File → Result ℕ Code
 next_of files =
     if nat_lt (unwrap_or (highest files) 0) GENERATION_LIMIT then Ok (next_generation files) else Err GenFull
@@ -70,7 +70,7 @@ new_row key keep moment bytes generation =
       };
     }
 
--- what a plan has come to: the rows, and from which file to which one each went
+-- the outcome of a plan: the rows, and from which file to which one each went
 pub record Outcome : Type 0 where
   pub rows : List Row
   pub pairs : List NamePair

@@ -1,4 +1,4 @@
--- The bytes of files are put behind those of one file.
+-- The bytes of files are put after those of one file.
 use Rattle.std.specs.Prelude.{ℕ, ◌+◌, nat_lt, if◌then◌else◌, List, [], ◌∷◌, ◌++◌, length, map, Option, Some, None, Result, Ok, Err}
 use Rattle.std.specs.Option.{option_map_or, option_to_list}
 use Rattle.cm_fields.specs.declared.code.Code.{Code}
@@ -21,7 +21,7 @@ use Rattle.ex_store.specs.Adding.{Outcome, admitted, and_then, keep_at, new_row}
 use Rattle.ex_store.specs.Copying.{moment_of, own_key}
 use Rattle.ex_store.specs.Rows.{added, files_of, filled, full_of, row_at, total}
 
--- the generation of these that is put behind, or none, where a new one is added; a number that is marked is refused
+-- the generation of these that is put after, or none, where a new one is added; a number that is marked is refused
 abbrev pub found : Gen → List File → Result (Option ℕ) Code
 found Missing files = Ok (highest (unmarked files))
 found Highest files = Ok (highest (unmarked files))
@@ -32,7 +32,7 @@ found (Number number) files =
     if has number (unmarked files) then Ok (Some number)
     else (if has number files then Err NoFile else Ok None)
 
--- the file that is put behind: its full name, and the empty row that is added where it is a new one
+-- the file that is put after: its full name, and the empty row that is added where it is a new one
 abbrev pub opening_of : ℕ → ℕ → Key → Option ℕ → Gen → List Row → Result Opening Code
 opening_of retention moment key (Some number) generation rows =
     Ok (record { target = record { key = key; generation = number }; new = None })
@@ -46,7 +46,7 @@ abbrev pub opened : ℕ → ℕ → Key → Gen → List Row → Result Opening 
 opened retention moment key generation rows =
     and_then (λ there. opening_of retention moment key there generation rows) (found generation (files_of key rows))
 
--- the rows with the file that is put behind
+-- the rows with the file that is put after
 abbrev pub with_opened : List Row → Option Row → List Row
 with_opened rows None = rows
 with_opened rows (Some row) = added row.file.keep row rows
@@ -55,13 +55,13 @@ with_opened rows (Some row) = added row.file.keep row rows
 abbrev pub bytes_at : FullName → List Row → List ℕ
 bytes_at full rows = option_map_or (λ row. row.file.bytes) (row_at full rows) []
 
--- so many bytes more, behind so many of a file and beside so many in all: or the limit that is passed
+-- so many bytes more, after so many of a file and beside so many in all: or the limit that is passed
 abbrev pub fitting : ℕ → ℕ → ℕ → Result Unit Code
 fitting all size more =
     if nat_lt FILE_LIMIT (size + more) then Err FileSize
     else (if nat_lt STORE_LIMIT (all + more) then Err StoreSize else Ok tt)
 
--- the bytes of each source in turn, behind these
+-- the bytes of each source in turn, after these
 abbrev pub concatenation : ℕ → List ℕ → List Row → Result (List ℕ) Code
 concatenation all bytes [] = Ok bytes
 concatenation all bytes (source ∷ more) =
@@ -72,7 +72,7 @@ concatenation all bytes (source ∷ more) =
 abbrev pub pairs_to : FullName → List Row → List NamePair
 pairs_to target sources = map (λ source. record { source = full_of source; target = target }) sources
 
--- the bytes of the sources, as they were, are put behind the target, which gets the moment of the line
+-- the bytes of the sources, as they were, are put after the target, which gets the moment of the line
 abbrev pub appended : ℕ → ℕ → Place → List Row → List Row → Result Outcome Code
 appended retention moment to sources rows =
     and_then (λ there.

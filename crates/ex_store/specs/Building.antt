@@ -2,12 +2,12 @@
 use Rattle.std.specs.Prelude.{ℕ, nat_le, if◌then◌else◌, List, length, map, find, Option, unwrap_or, option_map, Result, Ok, Err}
 use Rattle.std.specs.Ordering.{on}
 use Rattle.std.specs.declared.cmp.Ordering.{Ordering}
+use Rattle.cm_lists.specs.Ascent.{insertion}
 use Rattle.cm_fields.specs.declared.code.Code.{Code}
 use Rattle.cm_fields.specs.declared.code.Code.TheVariants.{DirLimit}
 use Rattle.cm_files.specs.Catalogue.{by_bytes}
 use Rattle.ex_store.specs.declared.directory.Directory.{Directory}
 use Rattle.ex_store.specs.declared.limits.TheConstants.{DIRECTORY_LIMIT}
-use Rattle.ex_store.specs.Insertion.{insertion}
 use Rattle.ex_store.specs.State.{has_directory, is_named}
 
 -- directories by their names

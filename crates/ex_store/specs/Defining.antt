@@ -3,13 +3,13 @@ use Rattle.std.specs.Prelude.{ℕ, not, ◌&&◌, nat_le, if◌then◌else◌, L
 use Rattle.std.specs.Char.{to_ascii_uppercase}
 use Rattle.std.specs.Ordering.{on}
 use Rattle.std.specs.declared.cmp.Ordering.{Ordering}
+use Rattle.cm_lists.specs.Ascent.{insertion}
 use Rattle.cm_fields.specs.declared.code.Code.{Code}
 use Rattle.cm_fields.specs.declared.code.Code.TheVariants.{LogicalLimit}
 use Rattle.cm_files.specs.Catalogue.{by_bytes}
 use Rattle.cm_text.specs.Case.{equals}
 use Rattle.ex_store.specs.declared.directory.Definition.{Definition}
 use Rattle.ex_store.specs.declared.limits.TheConstants.{LOGICAL_LIMIT}
-use Rattle.ex_store.specs.Insertion.{insertion}
 use Rattle.ex_store.specs.State.{has_definition}
 
 -- logical names by their bytes

@@ -12,7 +12,7 @@ use Rattle.ex_store.specs.State.{State, retention_of}
 abbrev pub empty_state : State
 empty_state = record { directories = []; connected = []; logical = []; rows = []; queue = [] }
 
--- the state with one part more, behind those of its kind
+-- the state with one part more, after those of its kind
 abbrev pub and_directory : Directory → State → State
 and_directory directory state = record state { directories = state.directories ++ directory ∷ [] }
 

@@ -7,8 +7,6 @@ pub mod Draft
 pub mod Entries
 pub mod Families
 pub mod Forms
-pub mod Insertion
-pub mod Lent
 pub mod Plan
 pub mod Positions
 pub mod Printing
@@ -17,4 +15,5 @@ pub mod Renaming
 pub mod Rows
 pub mod Selection
 pub mod State
+pub mod Views
 pub mod WellFormed

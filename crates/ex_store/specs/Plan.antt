@@ -29,7 +29,7 @@ use Rattle.ex_store.specs.Selection.{selected, touched}
 use Rattle.ex_store.specs.State.{State, has_directory, retention_of}
 use Rattle.ex_store.specs.WellFormed.{is_day, is_file_name, is_file_type, is_numbered}
 
--- the state behind a plan, and its pairs in order
+-- the state after a plan, and its pairs in order
 pub record Planned : Type 0 where
   pub state : State
   pub pairs : List NamePair
@@ -51,6 +51,7 @@ retention_at to state = retention_of to.directory state.directories
 abbrev pub read_at : ℕ → Place → State → List Row
 read_at moment from state = touched (moment_of moment) from state
 
+-- [plan]
 -- sources are those of the start, in ascending order, and each is taken in turn; a copy and an appending read them
 -- first
 unfoldable pub planned : Plan → ℕ → State → Result Planned Code
@@ -104,7 +105,7 @@ abbrev pub has_plain_kind : Option (List ℕ) → Bool
 has_plain_kind None = true
 has_plain_kind (Some kind) = is_file_type kind
 
--- a generation that bytes can be put behind
+-- a generation that bytes can be put after
 abbrev pub may_grow : Gen → Bool
 may_grow Missing = true
 may_grow Highest = true
@@ -113,7 +114,7 @@ may_grow Lowest = true
 may_grow All = false
 may_grow (Number number) = is_numbered number
 
--- what bytes may be put behind: one file
+-- what bytes may be put after: one file
 pub record IsOneFile (to : Place) (directories : List Directory) : Type 0 where
   pub there : has_directory to.directory directories ≡ true
   pub name : has_plain_name to.name ≡ true

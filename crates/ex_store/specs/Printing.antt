@@ -22,11 +22,11 @@ entry_for request row =
       note = request.note;
     }
 
--- so many entries more, behind so many of the queue: or the limit that is passed
+-- so many entries more, after so many of the queue: or the limit that is passed
 abbrev pub limit_check : ℕ → ℕ → Result Unit Code
 limit_check queue more = if nat_lt QUEUE_LIMIT (queue + more) then Err QueueLimit else Ok tt
 
--- one entry for each file, in their order, where they all fit behind those of the queue
+-- one entry for each file, in their order, where they all fit after those of the queue
 abbrev pub entries_for : Request → List Row → List QueueEntry → Result (List QueueEntry) Code
 entries_for request rows queue =
     and_then (λ _. Ok (map (entry_for request) rows)) (limit_check (length queue) (length rows))

@@ -96,7 +96,7 @@ are_doable rows (change ∷ more) = is_doable rows change && are_doable (rows_af
 abbrev pub outcome_of : List Row → Change → Outcome
 outcome_of rows change = record { rows = rows_after_all rows change.row_changes; pairs = change.pairs }
 
--- what is to be done with some rows comes to what a plan makes of them, and they stay those of a store
+-- what is to be done with some rows is what a plan makes of them, and they stay those of a store
 pub record IsMade (directories : List Directory) (rows : List Row) (plan : Result Outcome Code) (read : Option Reading)
     (change : Change) : Type 0 where
   pub files : change ≡ of_files read change.row_changes change.pairs

@@ -73,7 +73,7 @@ file_row directories row =
       deleted = row.file.deleted;
     }
 
--- the rows of the directory with a number
+-- [expunge] the rows of the directory with a number
 abbrev pub rows_numbered : ℕ → State → List Row
 rows_numbered directory state = filter (λ row. number_of row.key.directory state.directories == directory) state.rows
 

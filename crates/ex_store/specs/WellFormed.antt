@@ -5,7 +5,8 @@ use Rattle.std.specs.List.{list_all}
 use Rattle.std.specs.Ordering.{on}
 use Rattle.cm_text.specs.Bytes.{is_text}
 use Rattle.cm_text.specs.declared.name.TheConstants.{NAME_LIMIT}
-use Rattle.cm_files.specs.Catalogue.{ascends, by_bytes, is_directory_name, is_upper_name}
+use Rattle.cm_lists.specs.Ascent.{ascends}
+use Rattle.cm_files.specs.Catalogue.{by_bytes, is_directory_name, is_upper_name}
 use Rattle.cm_files.specs.LogicalName.{is_logical_name}
 use Rattle.ex_generations.specs.declared.file.File.{File}
 use Rattle.ex_generations.specs.declared.file.Remark.{Remark}

@@ -1,7 +1,7 @@
-// The bytes of files are put behind those of one file.
+// The bytes of files are put after those of one file.
 ghost use Rattle.std.specs.Prelude.{◌≡◌, ◌≤◌, List, Some, true, length, nat_le, nat_lt, IfOk, IfErr, Ok};
 ghost use Rattle.std.specs.List.{list_all};
-ghost use Rattle.cm_files.specs.Catalogue.{ascends};
+ghost use Rattle.cm_lists.specs.Ascent.{ascends};
 ghost use Rattle.ex_store.specs.declared.limits.TheConstants.{RETENTION_LIMIT, ROW_LIMIT, STORE_LIMIT};
 ghost use Rattle.ex_generations.specs.declared.file.TheConstants.{FILE_LIMIT};
 ghost use Rattle.ex_store.specs.declared.plan.Plan.TheVariants as plans;
@@ -27,7 +27,7 @@ use cm_io::NoMemory;
 use ex_generations::{Bytes, FILE_LIMIT};
 use std::alloc::Global;
 
-// These bytes more, behind so many of a file and beside so many in all: or the limit that is passed.
+// These bytes more, after so many of a file and beside so many in all: or the limit that is passed.
 fn fits(all: usize, size: usize, more: usize) -> Result<(), Code>
     requires all { all ≤ STORE_LIMIT }
     requires size { size ≤ FILE_LIMIT }
@@ -42,7 +42,7 @@ fn fits(all: usize, size: usize, more: usize) -> Result<(), Code>
     }
 }
 
-// The bytes of the sources at these places, behind those.
+// The bytes of the sources at these places, after those.
 fn concatenate(files: &Files, positions: &[u16], bytes: Vec<u8>) -> Result<Bytes, Refusal>
     requires within { list_all (λ at. nat_lt at (length files.now.rows)) positions.now ≡ true }
     requires all { total files.now.rows ≤ STORE_LIMIT }
@@ -88,7 +88,7 @@ fn pairs_to(
     Ok(pairs)
 }
 
-// The file that is put behind: its full name, and the empty row that is added where it is a new one.
+// The file that is put after: its full name, and the empty row that is added where it is a new one.
 #[derive(Debug, Drop)]
 struct Opening {
     target: FullName,
@@ -156,7 +156,7 @@ fn row_changes_of(
     Ok(row_changes)
 }
 
-// The sources at these places are put behind one file, and then are read. What is made does not depend on who has read
+// The sources at these places are put after one file, and then are read. What is made does not depend on who has read
 // what.
 fn appends(
     alloc: Global,
@@ -207,7 +207,7 @@ fn appends(
 }
 
 impl Store {
-    // The bytes of files are put behind those of one file.
+    // The bytes of files are put after those of one file.
     pub(crate) fn append(&self, from: &Place, to: &Place, moment: u64) -> Result<Ready, Refusal>
         requires { MayPlan (plans.Append from.now to.now) self.now.state }
         ensures ready { IfOk result (λ ready.

@@ -6,7 +6,7 @@ use crate::firsts::firsts_in;
 use crate::ready::Reading;
 use crate::{QueueEntry, Ready, Store};
 
-// Puts an entry behind those of the queue, in a vector that has room for it.
+// Puts an entry after those of the queue, in a vector that has room for it.
 fn put_last(queue: &mut Vec<QueueEntry>, entry: QueueEntry)
     requires { vec_len queue.old < vec_capacity queue.old }
     ensures items { queue.new.items ≡ queue.old.items ++ entry ∷ [] }

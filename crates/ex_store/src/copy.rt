@@ -1,9 +1,9 @@
 // Files are copied.
 ghost use Rattle.std.specs.Prelude.{◌≡◌, List, Some, ◌≤◌, true, false, [], ◌∷◌, ◌++◌, length, nat_le, nat_lt, IfOk, IfErr, OnOk, Ok};
 ghost use Rattle.std.specs.List.{list_all};
-ghost use Rattle.cm_files.specs.Catalogue.{ascends};
+ghost use Rattle.cm_lists.specs.Ascent.{ascends};
 ghost use Rattle.ex_generations.specs.Generations.{has};
-ghost use Rattle.ex_store.specs.Lent.{row_of_view};
+ghost use Rattle.ex_store.specs.Views.{row_of_view};
 ghost use Rattle.ex_store.specs.declared.limits.TheConstants.{RETENTION_LIMIT, ROW_LIMIT};
 ghost use Rattle.ex_store.specs.declared.plan.Plan.TheVariants as plans;
 ghost use Rattle.ex_store.specs.declared.ready.RowChange.TheVariants as changes;

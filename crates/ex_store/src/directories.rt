@@ -1,8 +1,8 @@
 // The directories of a store by name.
 ghost use Rattle.std.specs.Prelude.{◌≡◌, ◌-◌, ◌<◌, [], ◌∷◌, ◌++◌, true, find, length, option_map, slice_get, None, Some, if◌then◌else◌, OnErr, OnOk};
-ghost use Rattle.cm_files.specs.Catalogue.{ascends};
+ghost use Rattle.cm_lists.specs.Ascent.{ascends};
 ghost use Rattle.ex_store.specs.Building.{by_directory, with_directory};
-ghost use Rattle.ex_store.specs.Lent.{directory_of_view};
+ghost use Rattle.ex_store.specs.Views.{directory_of_view};
 ghost use Rattle.ex_store.specs.State.{has_directory, is_named, number_of, retention_of};
 
 use crate::key::short;
@@ -104,7 +104,7 @@ impl Directories {
         self.find(name).unwrap_or(self.len())
     }
 
-    // Adds a directory behind those that stand below it.
+    // Adds a directory after those that stand below it.
     pub(crate) fn push(&mut self, new: Directory) -> Result<(), NoMemory>
         requires { ascends by_directory (self.old.list ++ new ∷ []) ≡ true }
         ensures added { OnOk result (self.new.list ≡ self.old.list ++ new ∷ []) }

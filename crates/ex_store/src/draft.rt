@@ -1,7 +1,7 @@
 // A store that is filled part by part.
 ghost use Rattle.std.specs.Prelude.{◌≡◌, true, OnErr, OnOk, map};
 ghost use Rattle.ex_store.specs.Draft.{and_directory, and_logical, and_request, and_row, empty_state, kept_by, kept_by_directories};
-ghost use Rattle.ex_store.specs.Lent.{queue_entry};
+ghost use Rattle.ex_store.specs.Views.{queue_entry};
 ghost use Rattle.ex_store.specs.State.{has_directory};
 ghost use Rattle.ex_store.specs.WellFormed.{IsDraft};
 

@@ -5,7 +5,7 @@
 ghost use Rattle.std.specs.Prelude.{◌≡◌, ◌<◌, ◌≤◌, ◌-◌, ◌*◌, ◌^◌, [], true, false, get_or, length, map, position, take, ◌+◌, IfOk, IfSome, OnErr, OnOk, Ok, option_copied, option_map};
 ghost use Rattle.std.specs.List.{prefix_len};
 ghost use Rattle.std.specs.Ordering.{is_lt};
-ghost use Rattle.cm_files.specs.Catalogue.{ascends};
+ghost use Rattle.cm_lists.specs.Ascent.{ascends};
 ghost use Rattle.ex_generations.specs.declared.file.TheConstants.{FILE_LIMIT, GENERATION_LIMIT};
 ghost use Rattle.ex_generations.specs.Generations.{IsAscending, has};
 ghost use Rattle.ex_store.specs.Adding.{keep_at, numbered};
@@ -421,7 +421,7 @@ pub(crate) fn bytes_at<'a>(families: &'a [FamilyBox], full: &FullName) -> &'a [u
     }
 }
 
-// The generation that is put behind, beside these, or none, where a new one is added.
+// The generation that is put after, beside these, or none, where a new one is added.
 fn found_beside(gens: &Gens, generation: Gen) -> Result<Option<u32>, Code>
     ensures { result ≡ found generation gens.now.files }
 {
@@ -437,7 +437,7 @@ fn found_beside(gens: &Gens, generation: Gen) -> Result<Option<u32>, Code>
     }
 }
 
-// The generation of a family that is put behind, or none, where a new one is added.
+// The generation of a family that is put after, or none, where a new one is added.
 pub(crate) fn found(families: &[FamilyBox], key: &Key, generation: Gen) -> Result<Option<u32>, Code>
     requires { ascends by_family families.now ≡ true }
     ensures { result ≡ found generation (files_of key.now (rows_of families.now)) }

@@ -1,10 +1,10 @@
 // The files of all families, by their number in ascending order.
 ghost use Rattle.std.specs.Prelude.{◌≡◌, ◌+◌, ◌-◌, ◌*◌, ◌^◌, ◌<◌, ◌≤◌, [], ◌∷◌, ◌++◌, OnErr, OnOk, Some, get_or, length, set, slice_get, take, true};
 ghost use Rattle.ex_generations.specs.declared.file.TheConstants.{FILE_LIMIT};
-ghost use Rattle.cm_files.specs.Catalogue.{ascends};
+ghost use Rattle.cm_lists.specs.Ascent.{ascends};
 ghost use Rattle.ex_store.specs.declared.limits.TheConstants.{ROW_LIMIT};
 ghost use Rattle.ex_store.specs.Families.{AreFamilies, IsCounted, by_family, counted, rooms_of, rows_of, rows_under};
-ghost use Rattle.ex_store.specs.Lent.{row_of_view};
+ghost use Rattle.ex_store.specs.Views.{row_of_view};
 ghost use Rattle.ex_store.specs.declared.family.Family.{Family as FamilyValue};
 ghost use Rattle.ex_store.specs.declared.row.Row.{Row as Filed};
 ghost use Rattle.ex_store.specs.Rows.{by_row, first_in, with_remark};
@@ -18,7 +18,7 @@ use ex_generations::Remark;
 use std::alloc::Global;
 
 impl FamilyBox {
-    // Counts its files behind so many, and tells how many there are with them.
+    // Counts its files after so many, and tells how many there are with them.
     fn count(&mut self, before: usize) -> usize
         requires { before + length self.old.gens.files ≤ ROW_LIMIT }
         ensures end { result ≡ before + length self.old.gens.files }
@@ -120,8 +120,8 @@ fn place_of(families: &[FamilyBox], i: usize, probes: &mut u64) -> (usize, usize
     ensures later { probes.old ≤ probes.new }
     ensures few { 2 ^ (probes.new - probes.old) ≤ 2 * length families.now + 1 }
 {
-    let behind = i + 1;
-    let n = seek(families, |family| family.end() < behind, probes);
+    let after = i + 1;
+    let n = seek(families, |family| family.end() < after, probes);
     (n, i - files_before(families, n))
 }
 
@@ -154,7 +154,7 @@ pub(crate) fn remark_file(families: &mut [FamilyBox], i: usize, remark: Remark)
     families[n].remark(at, remark);
 }
 
-// Adds a file that goes behind all others.
+// Adds a file that goes after all others.
 pub(crate) fn push(families: &mut Vec<FamilyBox>, alloc: Global, row: Row) -> Result<(), NoMemory>
     requires families { AreFamilies families.old.items }
     requires last { ascends by_row (rows_of families.old.items ++ row ∷ []) ≡ true }

@@ -4,12 +4,12 @@ ghost use Rattle.ex_store.specs.declared.limits.TheConstants.{ROW_LIMIT, STORE_L
 ghost use Rattle.ex_store.specs.declared.key.Key.{Key as Named};
 ghost use Rattle.ex_store.specs.declared.row.Row.{Row as Filed};
 ghost use Rattle.ex_store.specs.Families.{by_family, room_at, rows_of};
-ghost use Rattle.ex_store.specs.Lent.{row_of_view};
+ghost use Rattle.ex_store.specs.Views.{row_of_view};
 ghost use Rattle.ex_store.specs.Ready.{are_doable, count_under, is_lawful, rows_after_all};
 ghost use Rattle.ex_store.specs.Rows.{blank, by_row, expunged, files_of, first_in, is_short, pages_in, pages_marked, row_at, rows_in_either, total, with_remark};
 ghost use Rattle.ex_store.specs.Adding.{keep_at, numbered};
 ghost use Rattle.ex_store.specs.Appending.{bytes_at, found};
-ghost use Rattle.cm_files.specs.Catalogue.{ascends};
+ghost use Rattle.cm_lists.specs.Ascent.{ascends};
 ghost use Rattle.ex_generations.specs.declared.file.TheConstants.{FILE_LIMIT};
 ghost use Rattle.ex_store.specs.WellFormed.{is_numbered};
 ghost use Rattle.std.specs.List.{list_all};
@@ -185,7 +185,7 @@ impl Files {
         pages
     }
 
-    // The generation of a family that is put behind, or none, where a new one is added.
+    // The generation of a family that is put after, or none, where a new one is added.
     pub(crate) fn found(&self, key: &Key, generation: Gen) -> Result<Option<u32>, Code>
         ensures { result ≡ found generation (files_of key.now self.now.rows) }
     {
@@ -200,7 +200,7 @@ impl Files {
         pages_in(&self.families, directory)
     }
 
-    // Adds a file that goes behind all others.
+    // Adds a file that goes after all others.
     pub(crate) fn push(&mut self, alloc: Global, row: Row) -> Result<(), NoMemory>
         requires last { ascends by_row (self.old.rows ++ row ∷ []) ≡ true }
         requires few { length self.old.rows < ROW_LIMIT }

@@ -1,7 +1,7 @@
 // What names a file: its directory, name, type and generation.
 ghost use Rattle.std.specs.Prelude.{◌≡◌, ◌<◌, length, IfNone, IfSome};
 ghost use Rattle.cm_text.specs.declared.name.TheConstants.{NAME_LIMIT};
-ghost use Rattle.ex_store.specs.Lent.{full_name, name_pair};
+ghost use Rattle.ex_store.specs.Views.{full_name, name_pair};
 ghost use Rattle.ex_store.specs.Rows.{by_key};
 
 use cm_text::{NAME_LIMIT, Name};

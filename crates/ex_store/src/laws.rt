@@ -1,6 +1,6 @@
 //! Laws of the store.
 ghost use Rattle.std.specs.Prelude.{ℕ, ◌≡◌, ◌&&◌, ◌↔◌, true, false, pos, List, Contains, Ok};
-ghost use Rattle.cm_files.specs.Catalogue.{ascends};
+ghost use Rattle.cm_lists.specs.Ascent.{ascends};
 ghost use Rattle.ex_generations.specs.Generations.{has};
 ghost use Rattle.ex_generations.specs.Retention as generations;
 ghost use Rattle.ex_store.specs.declared.key.Key.{Key};

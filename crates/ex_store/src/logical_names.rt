@@ -2,12 +2,12 @@
 ghost use Rattle.std.specs.Prelude.{ℕ, ◌≡◌, ◌-◌, ◌<◌, ◌≤◌, [], ◌∷◌, ◌++◌, List, true, false, not, filter, length, map, option_copied, slice_get, Some, IfNone, IfSome, OnErr, OnOk};
 ghost use Rattle.std.specs.Char.{to_ascii_uppercase};
 ghost use Rattle.std.specs.Str.{IsAscii};
-ghost use Rattle.cm_files.specs.Catalogue.{ascends};
+ghost use Rattle.cm_lists.specs.Ascent.{ascends};
 ghost use Rattle.cm_text.specs.Case.{equals};
 ghost use Rattle.cm_text.specs.declared.name.TheConstants.{NAME_LIMIT};
 ghost use Rattle.ex_store.specs.Defining.{by_definition, with_definition};
 ghost use Rattle.ex_store.specs.Entries.{directory_for, is_kept, is_kept_name};
-ghost use Rattle.ex_store.specs.Lent.{definition_of_view};
+ghost use Rattle.ex_store.specs.Views.{definition_of_view};
 ghost use Rattle.ex_store.specs.State.{has_definition};
 
 use crate::{Definition, DefinitionView};
@@ -43,7 +43,7 @@ fn kept(text: &[u8]) -> Option<Name>
 }
 
 // The name of the directory that each logical name stands for, by the logical name in upper case. To how many more room
-// is promised is counted here, since the map does not tell it behind a removal. Contracts see a list of definitions,
+// is promised is counted here, since the map does not tell it after a removal. Contracts see a list of definitions,
 // and that count.
 #[derive(Drop)]
 pub(crate) struct LogicalNames {
@@ -105,7 +105,7 @@ impl LogicalNames {
         self.find(name).is_some()
     }
 
-    // Adds a logical name behind those that stand below it.
+    // Adds a logical name after those that stand below it.
     pub(crate) fn push(&mut self, new: Definition) -> Result<(), NoMemory>
         requires ascend { ascends by_definition (self.old.list ++ new ∷ []) ≡ true }
         requires kept { is_kept new ≡ true }

@@ -100,6 +100,7 @@ impl Store {
     /// Removes the files of a directory that are marked as deleted, and tells how many pages they had.
     pub fn expunge(&mut self, directory: &str) -> u32
         requires { has_directory directory.now self.old.state.directories ≡ true }
+        // [expunge]
         ensures kept { self.new ≡ record self.old {
           state = record self.old.state { rows = expunged directory.now self.old.state.rows };
         } }

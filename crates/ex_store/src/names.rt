@@ -1,7 +1,7 @@
 // The store as the catalogue that file specifications are looked up in.
 ghost use Rattle.std.specs.Prelude.{◌≡◌, ◌+◌, ◌-◌, ◌*◌, ◌^◌, ◌<◌, ◌≤◌, length, option_copied, option_map, slice_get, Some};
 ghost use Rattle.cm_files.specs.Catalogue.{rows_of};
-ghost use Rattle.ex_store.specs.Lent.{row_of_view};
+ghost use Rattle.ex_store.specs.Views.{row_of_view};
 ghost use Rattle.ex_store.specs.Rows.{end_in, first_in, row_at};
 ghost use Rattle.ex_store.specs.State.{catalogue_of, defined, rows_numbered};
 
@@ -19,7 +19,7 @@ impl Store {
         usize::from(self.firsts[usize::from(directory)])
     }
 
-    // How many rows stand before those behind the directory with this number: where those of the next one begin.
+    // How many rows stand before those after the directory with this number: where those of the next one begin.
     fn end_at(&self, directory: u16) -> usize
         requires { directory < length self.now.state.directories }
         ensures { option_map (λ directory. end_in directory.name self.now.state.rows)

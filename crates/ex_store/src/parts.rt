@@ -1,6 +1,6 @@
 // The store as flat lists whose elements are lent.
 ghost use Rattle.std.specs.Prelude.{◌≡◌, ◌<◌, length, slice_get, Some};
-ghost use Rattle.ex_store.specs.Lent.{definition_of_view, directory_of_view, row_of_view};
+ghost use Rattle.ex_store.specs.Views.{definition_of_view, directory_of_view, row_of_view};
 ghost use Rattle.ex_store.specs.State.{has_directory};
 ghost use Rattle.ex_store.specs.WellFormed.{IsWellFormed};
 

@@ -29,7 +29,7 @@ pub enum Plan {
         from: Place,
         to: Place,
     },
-    /// The bytes of files are put behind those of one file.
+    /// The bytes of files are put after those of one file.
     Append {
         from: Place,
         to: Place,
@@ -39,7 +39,7 @@ pub enum Plan {
         to: Place,
         bytes: Bytes,
     },
-    /// Files are put into the print queue, behind those that are in it.
+    /// Files are put into the print queue, after those that are in it.
     Print {
         files: Place,
         request: Request,

@@ -31,7 +31,7 @@ impl Store {
         }
     }
 
-    // What a plan comes to.
+    // The outcome of a plan.
     fn plan(&self, plan: Plan, moment: u64) -> Result<Ready, Refusal>
         requires { MayPlan plan self.now.state }
         ensures ready { IfOk result (λ ready. planned plan moment self.now.state ≡ Ok (done_on self.now.state ready)) }
@@ -85,6 +85,7 @@ impl Store {
     pub fn prepare(&mut self, plan: Plan, moment: u64) -> Result<Ready, Refusal>
         requires { MayPlan plan self.old.state }
         ensures state { self.new.state ≡ self.old.state }
+        // [plan]
         ensures ready { IfOk result (λ ready. planned plan moment self.old.state ≡ Ok (done_on self.old.state ready)) }
         ensures for_it { IfOk result (λ ready. IsFor ready self.new) }
         ensures lean { IfOk result (λ ready.

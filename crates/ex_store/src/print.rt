@@ -1,7 +1,7 @@
 // Files are queued for printing.
 ghost use Rattle.std.specs.Prelude.{ℕ, ◌≡◌, ◌≤◌, true, length, map, nat_lt, IfOk, IfErr, Ok};
 ghost use Rattle.std.specs.List.{list_all};
-ghost use Rattle.ex_store.specs.Lent.{row_of_view};
+ghost use Rattle.ex_store.specs.Views.{row_of_view};
 ghost use Rattle.ex_store.specs.declared.limits.TheConstants.{QUEUE_LIMIT, ROW_LIMIT};
 ghost use Rattle.ex_store.specs.declared.plan.Plan.TheVariants as plans;
 ghost use Rattle.ex_store.specs.Plan.{IsRefused, MayPlan, planned};
@@ -58,7 +58,7 @@ fn entry_for(request: &Request, row: RowView<'_>) -> QueueEntry
     }
 }
 
-// So many entries more, behind so many of the queue: or the limit that is passed.
+// So many entries more, after so many of the queue: or the limit that is passed.
 fn check_limit(queue: usize, more: usize) -> Result<(), Code>
     requires { queue ≤ QUEUE_LIMIT }
     ensures { result ≡ limit_check queue more }

@@ -3,7 +3,7 @@ ghost use Rattle.std.specs.Prelude.{◌≡◌, ◌<◌, ◌≤◌, length};
 ghost use Rattle.cm_text.specs.declared.name.TheConstants.{NAME_LIMIT};
 ghost use Rattle.ex_store.specs.declared.limits.TheConstants.{FORMS};
 ghost use Rattle.ex_store.specs.Forms.{form_text};
-ghost use Rattle.ex_store.specs.Lent.{queue_entry};
+ghost use Rattle.ex_store.specs.Views.{queue_entry};
 
 use crate::{FullName, Key};
 use cm_text::Name;

@@ -3,7 +3,7 @@ ghost use Rattle.std.specs.Prelude.{◌≡◌, ◌<◌, ◌≤◌, true, length,
 ghost use Rattle.std.specs.List.{list_all};
 ghost use Rattle.ex_store.specs.declared.limits.TheConstants.{ROW_LIMIT};
 ghost use Rattle.ex_store.specs.Entries.{is_kept};
-ghost use Rattle.ex_store.specs.Lent.{name_pair};
+ghost use Rattle.ex_store.specs.Views.{name_pair};
 ghost use Rattle.ex_store.specs.Ready.{is_lawful, is_reading_within, no_change, of_definition, of_directory, of_entries, of_files};
 
 use crate::{Definition, Directory, FullName, NamePair, Pair, Place, QueueEntry, Row};

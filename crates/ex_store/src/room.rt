@@ -2,7 +2,7 @@
 ghost use Rattle.std.specs.Prelude.{◌≡◌, ◌<◌, ◌≤◌, ◌+◌, ◌^◌, true, length, option_copied, OnOk, if◌then◌else◌};
 ghost use Rattle.std.specs.List.{list_all};
 ghost use Rattle.std.specs.Ordering.{is_eq};
-ghost use Rattle.cm_files.specs.Catalogue.{ascends};
+ghost use Rattle.cm_lists.specs.Ascent.{ascends};
 ghost use Rattle.ex_store.specs.declared.key.Key.{Key as Named};
 ghost use Rattle.ex_store.specs.Families.{HasRoom, EachHasRoom, by_family, room_at, rooms_of, rows_of, without_demand, demand_at};
 ghost use Rattle.ex_store.specs.Ready.{are_doable, count_under, is_doable, is_lawful, key_put, moved, puts_under, rows_after, rows_after_all};

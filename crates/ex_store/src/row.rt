@@ -1,7 +1,7 @@
 // The files of a store.
 ghost use Rattle.std.specs.Prelude.{◌≡◌};
 ghost use Rattle.ex_store.specs.Adding.{new_row};
-ghost use Rattle.ex_store.specs.Lent.{row_of_view};
+ghost use Rattle.ex_store.specs.Views.{row_of_view};
 ghost use Rattle.ex_store.specs.Rows.{blank, full_of, with_name};
 
 use crate::key::copy_of;

@@ -2,7 +2,7 @@
 ghost use Rattle.std.specs.Prelude.{◌≡◌, ◌≤◌, true, drop, length, option_map};
 ghost use Rattle.std.specs.List.{list_all, position_from};
 ghost use Rattle.ex_store.specs.declared.limits.TheConstants.{ROW_LIMIT};
-ghost use Rattle.ex_store.specs.Lent.{row_of_view};
+ghost use Rattle.ex_store.specs.Views.{row_of_view};
 ghost use Rattle.ex_store.specs.Positions.{positions_from};
 ghost use Rattle.ex_store.specs.Rows.{rows_in};
 ghost use Rattle.ex_store.specs.Selection.{IsNext, IsNumber, is_selected_by, selected};
@@ -42,7 +42,7 @@ impl<'a, 'b> Model for Selection<'a, 'b> {
 
 impl<'a, 'b> Iterator for Selection<'a, 'b> {
     ghost use Rattle.std.specs.Iterator.{YieldsFirstBy, item_count};
-    ghost use Rattle.ex_store.specs.Lent.{row_of_view};
+    ghost use Rattle.ex_store.specs.Views.{row_of_view};
 
     type Item = RowView<'a>;
 

@@ -1,7 +1,7 @@
 // A plan over files, as far as it has come.
 ghost use Rattle.std.specs.Prelude.{◌≡◌, ◌≤◌, [], true, length, map, IfOk};
 ghost use Rattle.std.specs.List.{list_all};
-ghost use Rattle.cm_files.specs.Catalogue.{ascends};
+ghost use Rattle.cm_lists.specs.Ascent.{ascends};
 ghost use Rattle.ex_store.specs.declared.limits.TheConstants.{ROW_LIMIT};
 ghost use Rattle.ex_store.specs.Families.{by_family, rows_of};
 ghost use Rattle.ex_store.specs.Ready.{is_lawful, is_reading_within, of_files};

@@ -1,7 +1,7 @@
 // The store.
 ghost use Rattle.std.specs.Prelude.{◌≡◌, ◌<◌, true, IfOk, Ok, Err, if◌then◌else◌, length, slice_get, Some, option_map};
 ghost use Rattle.cm_fields.specs.declared.code.Code.TheVariants.{NoDefinition};
-ghost use Rattle.ex_store.specs.Lent.{queue_entry};
+ghost use Rattle.ex_store.specs.Views.{queue_entry};
 ghost use Rattle.ex_store.specs.State.{defined, first_state, has_directory, logical_name, undefined};
 
 use crate::directories::Directories;

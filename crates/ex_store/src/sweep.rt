@@ -1,7 +1,7 @@
 // What is told of all files, by family, and what is done with those of one directory.
 ghost use Rattle.std.specs.Prelude.{◌≡◌, ◌+◌, ◌^◌, ◌≤◌, ◌<◌, nat_le, true, length};
 ghost use Rattle.std.specs.List.{list_all};
-ghost use Rattle.cm_files.specs.Catalogue.{ascends};
+ghost use Rattle.cm_lists.specs.Ascent.{ascends};
 ghost use Rattle.ex_generations.specs.declared.file.TheConstants.{FILE_LIMIT};
 ghost use Rattle.ex_generations.specs.Generations.{marked, pages, unmarked};
 ghost use Rattle.ex_store.specs.declared.limits.TheConstants.{ROW_LIMIT, STORE_LIMIT};
@@ -85,7 +85,7 @@ pub(crate) fn drop_empty(families: &mut Vec<FamilyBox>)
     families.retain(|family| !family.files().is_empty());
 }
 
-// The pages of some files, behind so many.
+// The pages of some files, after so many.
 fn add_pages(files: &[File], before: u32) -> u32
     requires short { list_all (λ file. nat_le (length file.bytes) FILE_LIMIT) files.now ≡ true }
     requires few { before + pages files.now < 2 ^ 32 }

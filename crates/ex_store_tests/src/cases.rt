@@ -1,4 +1,4 @@
-// Cases as texts: a line each, with what is done and, behind an arrow, what is wanted.
+// Cases as texts: a line each, with what is done and, after an arrow, what is wanted.
 
 use std::alloc::{AllocError, Global};
 use std::process::Abort;
@@ -8,7 +8,7 @@ pub(crate) fn halves<'a>(rt: &impl Abort, case: &'a str) -> (&'a str, &'a str) {
     case.split_once(" -> ").expect(rt, "an arrow")
 }
 
-/// The first word, and what stands behind it.
+/// The first word, and what stands after it.
 pub(crate) fn first_word(text: &str) -> (&str, &str) {
     match text.split_once(' ') {
         Some(parts) => parts,

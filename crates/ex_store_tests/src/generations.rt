@@ -5,6 +5,7 @@ mod steps;
 
 use steps::{each_afresh, even, tells};
 
+// [retention]
 #[test]
 fn retention_marks_the_lowest(rt: HostRuntime) {
     each_afresh(
@@ -18,6 +19,7 @@ fn retention_marks_the_lowest(rt: HostRuntime) {
     );
 }
 
+// [next-generation]
 #[test]
 fn the_next_is_above_all(rt: HostRuntime) {
     each_afresh(

@@ -1,4 +1,4 @@
--- Pieces that are put one behind the other.
+-- Pieces that are put one after the other.
 use Rattle.cm_io.proofs.Additions.{add_append, add_none, adds_between, adds_early, adds_late, rose_early, rose_late}
 
 -- what joins them

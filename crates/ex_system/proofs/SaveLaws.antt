@@ -1,4 +1,4 @@
--- What is saved is read again.
+-- [save] What is saved is read again.
 use Rattle.std.proofs.Common.{◌≡◌, ℕ, List, Option, Some, None, IsTrue, refl, sym, ◌∙◌, subst, arith}
 use Rattle.cm_io.specs.declared.status.Status.{Status}
 use Rattle.cm_io.specs.declared.status.Status.TheVariants as status
@@ -15,8 +15,8 @@ use Rattle.ex_system.specs.Start.{HasImage}
 -- where the host did not fail the image is there
 kept : (image : List ℕ) (before now : Option (List ℕ)) (result : Status) → (result ≡ status.HostFault → ⊥) → Keeps image before now result
     → now ≡ Some image
-kept image before now status.HostFault went keeps = absurd (went refl)
-kept image before now result went keeps = keeps
+kept image before now status.HostFault outcome keeps = absurd (outcome refl)
+kept image before now result outcome keeps = keeps
 
 -- the text of a state that is well formed is its image
 has_text : (state : State) → IsWellFormed state → HasImage (Some (image_text state)) state
@@ -26,7 +26,7 @@ has_text state well =
 
 pub saved_image : (before now next : Disk) (out : List ℕ) (state : State) (result : Status) → Saves before now out state result
     → (result ≡ status.HostFault → ⊥) → IsTrue before.tells → next.files out ≡ now.files out → HasImage (next.files out) state
-saved_image before now next out state result saves went tells same =
+saved_image before now next out state result saves outcome tells same =
     subst (λ (file : Option (List ℕ)). HasImage file state)
-    (sym (same ∙ kept (image_text state) (before.files out) (now.files out) result went (saves.file tells)))
+    (sym (same ∙ kept (image_text state) (before.files out) (now.files out) result outcome (saves.file tells)))
     (has_text state saves.well)

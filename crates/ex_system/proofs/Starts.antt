@@ -1,4 +1,4 @@
--- What a run begins from, and what a status says that comes before its first prompt.
+-- [start-cause] What a run begins from, and what a status says that comes before its first prompt.
 use Rattle.std.proofs.Common.{◌≡◌, ◌≤◌, ℕ, List, length, Option, Some, None, refl, sym, ◌∙◌, subst, inl, arith}
 use Rattle.ex_image.specs.Grammar.{FirstBad, IsImage}
 use Rattle.cm_io.specs.declared.status.Kind.{Kind}

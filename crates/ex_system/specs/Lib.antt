@@ -1,4 +1,3 @@
-pub mod Asked
 pub mod Disk
 pub mod Form
 pub mod Messages
@@ -6,3 +5,4 @@ pub mod Quiet
 pub mod Saving
 pub mod Start
 pub mod Trying
+pub mod WordViews

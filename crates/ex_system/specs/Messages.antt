@@ -1,7 +1,7 @@
 -- The texts that a program over a store shows of itself.
 use Rattle.std.specs.Prelude.{ℕ, List, [], ◌++◌, codes}
 use Rattle.std.specs.Fmt.{decimal}
-use Rattle.cm_text.specs.Shown.{end_of_line}
+use Rattle.cm_text.specs.ScreenBytes.{end_of_line}
 use Rattle.cm_io.specs.declared.status.Kind.{Kind}
 use Rattle.cm_io.specs.declared.status.Kind.TheVariants as kinds
 use Rattle.cm_io.specs.declared.status.Status.{Status}

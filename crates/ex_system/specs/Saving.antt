@@ -18,7 +18,7 @@ Keeps image before now result = now ≡ Some image
 abbrev pub IsOr : Status → Status → Type 0
 IsOr result why = (result ≡ why) ⊎ (result ≡ status.HostFault)
 
--- a run that is written to its end comes to another status than these
+-- a run that is written to its end ends with another status than these
 abbrev pub IsEnd : Status → Type 0
 IsEnd status.Usage = ⊥
 IsEnd status.HostFault = ⊥
@@ -32,6 +32,7 @@ abbrev pub HostCause : ℕ → ℕ → Status → Type 0
 HostCause before now status.HostFault = Rose before now
 HostCause before now result = now ≡ before
 
+-- [save]
 -- the image of a state, which is well formed, is written to this file, as far as the status says: the file is created
 -- once and closed, nothing is loaded, and every other file is as before
 pub record Saves (before now : Disk) (out : List ℕ) (state : State) (result : Status) : Type 0 where

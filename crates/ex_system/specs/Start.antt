@@ -33,7 +33,7 @@ IsEarly (Some name) status.ImageTooLarge = Unit {0}
 IsEarly (Some name) (status.BadImage at kind) = Unit {0}
 IsEarly input result = ⊥
 
--- what a run past its first prompt comes to
+-- the outcome of a run past its first prompt
 abbrev pub IsRun : Status → Type 0
 IsRun status.Usage = ⊥
 IsRun (status.BadImage at kind) = ⊥
@@ -41,7 +41,7 @@ IsRun status.NoImage = ⊥
 IsRun status.ImageTooLarge = ⊥
 IsRun result = Unit {0}
 
--- this status, but where the host fails or memory is wanting
+-- this status, but where the host fails or memory runs out
 abbrev pub IsUnless : Status → Status → Type 0
 IsUnless result why = (result ≡ why) ⊎ (result ≡ status.HostFault) ⊎ (result ≡ status.NoMemory)
 
@@ -55,18 +55,19 @@ FileCause (Some bytes) result =
     → ((at : ℕ) → (kind : Kind) → FirstBad bytes at kind → IsUnless result (status.BadImage at kind))
     × ((start : State) → IsImage bytes start → IsRun result))
 
+-- [start-cause]
 abbrev pub InputCause : Disk → Option (List ℕ) → Status → Type 0
 InputCause disk None result = IsRun result
 InputCause disk (Some name) result = IsTrue disk.tells → FileCause (disk.files name) result
 
 -- a file that is named was loaded once, and nothing else is touched
-abbrev pub loads_behind : Option (List ℕ) → ℕ → ℕ
-loads_behind None loads = loads
-loads_behind (Some name) loads = next_count loads
+abbrev pub loads_after : Option (List ℕ) → ℕ → ℕ
+loads_after None loads = loads
+loads_after (Some name) loads = next_count loads
 
 pub record IsLoaded (input : Option (List ℕ)) (before now : Disk) : Type 0 where
   pub tells : now.tells ≡ before.tells
   pub files : IsTrue before.tells → (name : List ℕ) → now.files name ≡ before.files name
   pub is_open : now.is_open ≡ before.is_open
-  pub loads : now.loads ≡ loads_behind input before.loads
+  pub loads : now.loads ≡ loads_after input before.loads
   pub creates : now.creates ≡ before.creates

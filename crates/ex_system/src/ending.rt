@@ -10,8 +10,8 @@ use crate::saving::save_image;
 use cm_io::{Host, Sink, Status};
 use ex_store::Store;
 
-/// Writes the image of a store to a file, and shows the message of the status that it comes to. Where that has none the
-/// screen is left as it is: what the program shows of its own then stands behind the save.
+/// Writes the image of a store to a file, and shows the message of the status that it ends with. Where that has none
+/// the screen is left as it is: what the program shows of its own then stands after the save.
 pub fn finish<H: Host, S: Sink>(
     status: Status,
     store: &Store,
@@ -21,10 +21,10 @@ pub fn finish<H: Host, S: Sink>(
 ) -> Status
     requires { IsEnd status }
     ensures status { IsOr result status }
-    ensures shown { Tried (S.told screen.old) (S.told screen.new)
+    ensures shown { Tried (S.contents screen.old) (S.contents screen.new)
         (S.faults screen.old) (S.faults screen.new) [] (message result) }
     ensures quiet { IsSilent result
-        → (S.told screen.new ≡ S.told screen.old) × (S.faults screen.new ≡ S.faults screen.old) }
+        → (S.contents screen.new ≡ S.contents screen.old) × (S.faults screen.new ≡ S.faults screen.old) }
     ensures saved { Saves (disk_of H.Host host.old) (disk_of H.Host host.new) out.now store.now.state result }
 {
     let status = save_image(status, store, out, host);

@@ -1,7 +1,7 @@
 // What a run over a store is asked for.
 ghost use Rattle.std.specs.Prelude.{◌≡◌};
 ghost use Rattle.std.specs.Option.{option_map};
-ghost use Rattle.ex_system.specs.Asked.{form_view};
+ghost use Rattle.ex_system.specs.WordViews.{form_view};
 ghost use Rattle.ex_system.specs.Form.{in_out, is_name};
 
 /// What a run over a store is asked for.

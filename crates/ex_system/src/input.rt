@@ -50,6 +50,7 @@ fn loaded<H: Host>(alloc: Global, name: &str, host: &mut H) -> Result<Store, Sta
 pub fn start<H: Host>(alloc: Global, input: Option<&str>, host: &mut H) -> Result<Store, Status>
     ensures began { IfOk result (λ store. Began (disk_of H.Host host.old) (option_copied input.entry) store.state) }
     ensures early { IfErr result (λ status. IsEarly (option_copied input.entry) status) }
+    // [start-cause]
     ensures cause { IfErr result (λ status. InputCause (disk_of H.Host host.old) (option_copied input.entry) status) }
     ensures loaded { IsLoaded (option_copied input.entry) (disk_of H.Host host.old) (disk_of H.Host host.new) }
     ensures quiet { OnOk result (H.faults host.new ≡ H.faults host.old) }

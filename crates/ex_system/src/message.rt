@@ -3,7 +3,7 @@
 
 ghost use Rattle.std.specs.Prelude.{◌≡◌, []};
 ghost use Rattle.cm_io.specs.Fault.{PutCause};
-ghost use Rattle.cm_io.specs.Told.{Adds};
+ghost use Rattle.cm_io.specs.Contents.{Adds};
 ghost use Rattle.cm_io.specs.declared.status.Status.TheVariants as status;
 ghost use Rattle.ex_system.specs.Messages.{IsSilent, colon, fault_text, kind_text, message, message_head};
 ghost use Rattle.ex_system.specs.Trying.{Tried};
@@ -11,7 +11,7 @@ ghost use Rattle.ex_system.specs.Trying.{Tried};
 use cm_io::{Kind, Put, Sink, Status, put_decimal, put_line};
 use cm_text::end_of_line;
 
-// The message of a status, without the end of its line, and without the place and the kind behind that of BadImage. It
+// The message of a status, without the end of its line, and without the place and the kind after that of BadImage. It
 // is empty where there is none.
 #[tactic(auto, unfolding(crate::specs::Messages::message_head))]
 fn message_head(status: Status) -> &'static str
@@ -55,7 +55,7 @@ fn colon() -> &'static [u8]
 // Puts where the bytes are no image, and why.
 #[tactic(auto, using(crate::proofs::Parts::pieces), unfolding(crate::specs::Messages::fault_text))]
 fn put_fault<S: Sink>(at: u32, kind: Kind, screen: &mut S) -> Put
-    ensures bytes { Adds (S.told screen.old) (S.told screen.new) (fault_text at kind) result }
+    ensures bytes { Adds (S.contents screen.old) (S.contents screen.new) (fault_text at kind) result }
     ensures cause { PutCause (S.faults screen.old) (S.faults screen.new) result }
 {
     if let Put::Failed = put_decimal(u64::from(at), screen) {
@@ -69,7 +69,7 @@ fn put_fault<S: Sink>(at: u32, kind: Kind, screen: &mut S) -> Put
 
 // Puts the message of BadImage.
 fn put_bad_image<S: Sink>(at: u32, kind: Kind, screen: &mut S) -> Put
-    ensures bytes { Adds (S.told screen.old) (S.told screen.new) (message (status.BadImage at kind)) result }
+    ensures bytes { Adds (S.contents screen.old) (S.contents screen.new) (message (status.BadImage at kind)) result }
     ensures cause { PutCause (S.faults screen.old) (S.faults screen.new) result }
 {
     if let Put::Failed = screen.put(message_head(Status::BadImage { at, kind }).as_bytes()) {
@@ -83,10 +83,10 @@ fn put_bad_image<S: Sink>(at: u32, kind: Kind, screen: &mut S) -> Put
 
 /// Shows the message of a status, where it has one. A screen that fails here changes nothing.
 pub fn show_message<S: Sink>(status: Status, screen: &mut S)
-    ensures shown { Tried (S.told screen.old) (S.told screen.new)
+    ensures shown { Tried (S.contents screen.old) (S.contents screen.new)
         (S.faults screen.old) (S.faults screen.new) [] (message status) }
     ensures quiet { IsSilent status
-        → (S.told screen.new ≡ S.told screen.old) × (S.faults screen.new ≡ S.faults screen.old) }
+        → (S.contents screen.new ≡ S.contents screen.old) × (S.faults screen.new ≡ S.faults screen.old) }
 {
     match status {
         Status::Done | Status::Usage | Status::WriteFault | Status::Stopped => {}

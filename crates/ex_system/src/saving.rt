@@ -11,6 +11,7 @@ use ex_store::Store;
 pub fn save_image<H: Host>(status: Status, store: &Store, out: &str, host: &mut H) -> Status
     requires { IsEnd status }
     ensures status { IsOr result status }
+    // [save]
     ensures saved { Saves (disk_of H.Host host.old) (disk_of H.Host host.new) out.now store.now.state result }
 {
     // A use of the parts, for the proof: the state is well formed.

@@ -1,7 +1,7 @@
 // Words where there are two or three of them.
 ghost use Rattle.std.specs.Prelude.{◌≡◌};
 ghost use Rattle.std.specs.Option.{option_map};
-ghost use Rattle.ex_system.specs.Asked.{pair_view, triple_view};
+ghost use Rattle.ex_system.specs.WordViews.{pair_view, triple_view};
 ghost use Rattle.ex_system.specs.Form.{pair_of, triple_of};
 
 use cm_io::Words;

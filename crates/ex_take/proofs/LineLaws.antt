@@ -11,11 +11,11 @@ use Rattle.cm_text.specs.Lines.{BeginsLine, BeginsLines, lines}
 use Rattle.cm_text.specs.declared.lines.LineEnd.{LineEnd}
 use Rattle.cm_text.specs.Text.{IsLine, ends_in_hyphen}
 use Rattle.cm_text.specs.declared.text.TheConstants.{LINE_LIMIT}
-use Rattle.ex_take.specs.Lines.{file_lines, is_line, joined_behind, joined_lines}
+use Rattle.ex_take.specs.Lines.{file_lines, is_line, joined_after, joined_lines}
 
 -- a line that ends in no hyphen is whole
 pub whole_line : (line : List ℕ) (others : List (List ℕ)) → ends_in_hyphen line ≡ false
-    → joined_behind line others ≡ line ∷ joined_lines others
+    → joined_after line others ≡ line ∷ joined_lines others
 whole_line line [] whole = refl
 whole_line line (next ∷ others) whole = rw whole refl
 
@@ -30,18 +30,18 @@ no_line bytes rest at found is begins none =
 -- the first line is read, and continued by those that follow it
 pub reads_line : (bytes rest more : List ℕ) (at : ℕ) (found : Option LineEnd) (first : LineEnd) (line new : List ℕ) (result : ℕ)
     → rest ≡ drop at bytes → BeginsLines rest found → found ≡ Some first → line ≡ take first.end rest → more ≡ drop first.next rest
-    → joined_behind line (lines more) ≡ new ∷ file_lines (drop result more)
+    → joined_after line (lines more) ≡ new ∷ file_lines (drop result more)
     → new ∷ file_lines (drop (at + first.next + result) bytes) ≡ file_lines (drop at bytes)
 unfolding file_lines
-reads_line bytes rest more at found first line new result is begins some read behind joins =
+reads_line bytes rest more at found first line new result is begins some read after joins =
     let begin : BeginsLine rest first = subst (λ (it : Option LineEnd). BeginsLines rest it) some begins in
     let place : drop result more ≡ drop (at + first.next + result) bytes
-    = ap (λ (it : List ℕ). drop result it) behind ∙ drop-drop result first.next rest ∙ ap (λ (it : List ℕ). drop (first.next + result) it) is
+    = ap (λ (it : List ℕ). drop result it) after ∙ drop-drop result first.next rest ∙ ap (λ (it : List ℕ). drop (first.next + result) it) is
     ∙ drop-drop (first.next + result) at bytes ∙ ap (λ (n : ℕ). drop n bytes) (omega arith) in
     sym (ap (λ (it : List ℕ). joined_lines (lines it)) (sym is)
     ∙ ap (λ (it : List (List ℕ)). joined_lines it) begin.line
-    ∙ ap (λ (it : List ℕ). joined_behind it (lines (drop first.next rest))) (sym read)
-    ∙ ap (λ (it : List ℕ). joined_behind line (lines it)) (sym behind)
+    ∙ ap (λ (it : List ℕ). joined_after it (lines (drop first.next rest))) (sym read)
+    ∙ ap (λ (it : List ℕ). joined_after line (lines it)) (sym after)
     ∙ joins ∙ ap (λ (it : List ℕ). new ∷ file_lines it) place)
 
 -- text bytes and join bytes alone

@@ -5,7 +5,7 @@ use Rattle.std.proofs.Common.{◌≡◌, ◌⊎◌, inl, inr, ℕ, suc, ◌-◌,
 use Rattle.std.specs.Option.{option_map_or}
 use Rattle.cm_lists.proofs.Pieces.{cons_is_not_empty}
 use Rattle.cm_fields.specs.declared.code.Code.{Code}
-use Rattle.cm_run.specs.Meaning.{Deed}
+use Rattle.cm_run.specs.Semantics.{Effect}
 use Rattle.cm_run.specs.Obey.{left_by}
 use Rattle.cm_run.proofs.Acts.{left_append}
 use Rattle.ex_store.specs.declared.place.Place.{Place}
@@ -19,9 +19,9 @@ use Rattle.ex_commands.specs.declared.acted.Acted.{Acted}
 use Rattle.ex_commands.specs.declared.acted.Acted.TheVariants as answers
 use Rattle.ex_commands.specs.declared.command.Command.{Command}
 use Rattle.ex_commands.specs.declared.command.Command.TheVariants as commands
-use Rattle.ex_take.specs.Exec.{behind_end, closes, completion_deeds, end_deeds, fault_deeds, follows, innermost, is_over, lifted, looks_ahead, next_fault, open_files, settles, stopped, taken_by, unwaiting}
+use Rattle.ex_take.specs.Exec.{after_end, closes, completion_effects, end_effects, fault_effects, follows, innermost, is_over, lifted, looks_ahead, next_fault, open_files, settles, stopped, taken_by, unwaiting}
 use Rattle.ex_take.specs.ExecState.{ExecState}
-use Rattle.ex_take.specs.Interpreter.{becomes, completion_answer, deed_of, pending_complete, subcommand_deeds}
+use Rattle.ex_take.specs.Interpreter.{becomes, completion_answer, effect_of, pending_complete, subcommand_effects}
 use Rattle.ex_take.specs.InterpreterState.{InterpreterState}
 use Rattle.ex_take.specs.Quiet.{IsQuiet, Waits}
 use Rattle.ex_take.specs.declared.pending.Pending.{Pending}
@@ -101,14 +101,14 @@ looks_stand : (at : ExecState) → at.interpreter.typing ≡ None → Waits at.i
     → is_over (innermost at.files) ≡ false → StandsClosed at.taken (left_by at (looks_ahead at))
 unfolding looks_ahead
 looks_stand at line waits some on = by (next_fault at.taken (innermost at.files)) refl where
-  by : (fault : Option Code) → next_fault at.taken (innermost at.files) ≡ fault → StandsClosed at.taken (left_by at (fault_deeds at fault))
+  by : (fault : Option Code) → next_fault at.taken (innermost at.files) ≡ fault → StandsClosed at.taken (left_by at (fault_effects at fault))
   by None is = λ going. inr (record { line = line; waits = waits; some = some; on = on; fault = is; count = refl })
   by (Some code) is = stopped_closed at.taken code at line
 
 -- where no file is open none has a next line
 looks_none : (at : ExecState) → at.files ≡ [] → looks_ahead at ≡ []
 unfolding looks_ahead
-looks_none at none = ap (λ (files : List (List (List ℕ))). fault_deeds at (next_fault at.taken (innermost files))) none
+looks_none at none = ap (λ (files : List (List (List ℕ))). fault_effects at (next_fault at.taken (innermost files))) none
 
 -- files that are at their end are closed
 abbrev with_files : ExecState → List (List (List ℕ)) → ExecState
@@ -117,7 +117,7 @@ with_files at files = record at { files = files; taken = taken_by files at.taken
 goes_on_with : (at : ExecState) (files : List (List (List ℕ))) → at.interpreter.typing ≡ None → at.interpreter.pending ≡ None
     → is_over (innermost files) ≡ false → StandsClosed at.taken (left_by (with_files at files) (looks_ahead (with_files at files)))
 goes_on_with at [] line free on =
-    subst (λ (deeds : List (Deed ExecState)). StandsClosed at.taken (left_by (with_files at []) deeds)) (sym (looks_none (with_files at []) refl))
+    subst (λ (effects : List (Effect ExecState)). StandsClosed at.taken (left_by (with_files at []) effects)) (sym (looks_none (with_files at []) refl))
     (λ going. inl (record { files = refl; taken = refl; line = line; free = free }))
 goes_on_with at (file ∷ files) line free on =
     subst (λ (n : ℕ). StandsClosed n (left_by (with_files at (file ∷ files)) (looks_ahead (with_files at (file ∷ files)))))
@@ -128,18 +128,18 @@ closes_stand : (at : ExecState) → at.interpreter.typing ≡ None → at.interp
 unfolding closes
 closes_stand at line free = goes_on_with at (open_files at.files) line free (last_is_on at.files)
 
--- behind the end of a file
-behind_stands : (at : ExecState) (answer : Acted) → at.interpreter.typing ≡ None → at.interpreter.pending ≡ None
-    → StandsClosed at.taken (left_by at (behind_end at answer))
-unfolding behind_end
-behind_stands at (answers.Refused code) line free = stopped_closed at.taken code at line
-behind_stands at answers.Ok line free = closes_stand at line free
-behind_stands at answers.Pending line free = closes_stand at line free
-behind_stands at answers.Data line free = closes_stand at line free
-behind_stands at answers.Take line free = closes_stand at line free
-behind_stands at answers.Logout line free = closes_stand at line free
-behind_stands at answers.NoMemory line free = closes_stand at line free
-behind_stands at answers.Failed line free = closes_stand at line free
+-- after the end of a file
+after_stands : (at : ExecState) (answer : Acted) → at.interpreter.typing ≡ None → at.interpreter.pending ≡ None
+    → StandsClosed at.taken (left_by at (after_end at answer))
+unfolding after_end
+after_stands at (answers.Refused code) line free = stopped_closed at.taken code at line
+after_stands at answers.Ok line free = closes_stand at line free
+after_stands at answers.Pending line free = closes_stand at line free
+after_stands at answers.Data line free = closes_stand at line free
+after_stands at answers.Take line free = closes_stand at line free
+after_stands at answers.Logout line free = closes_stand at line free
+after_stands at answers.NoMemory line free = closes_stand at line free
+after_stands at answers.Failed line free = closes_stand at line free
 
 -- only BUILD and DIRECTORY have subcommands, with which they stay what they are
 abbrev pub takes_subs : Command → Bool
@@ -188,53 +188,53 @@ module _ (interpreter : InterpreterState) (moment : ℕ) (command : Command) (ta
   same : interpreter ≡ becomes interpreter moment command (act_of command moment interpreter.state).answer
   same = otherwise interpreter moment command acts (no_logout command takes) (no_copy command takes)
 
-  pub sub_line : (deed_of interpreter moment command).state.typing ≡ interpreter.typing
+  pub sub_line : (effect_of interpreter moment command).state.typing ≡ interpreter.typing
   sub_line = ap (λ (it : InterpreterState). it.typing) (sym same)
 
-  pub sub_free : (deed_of interpreter moment command).state.pending ≡ interpreter.pending
+  pub sub_free : (effect_of interpreter moment command).state.pending ≡ interpreter.pending
   sub_free = ap (λ (it : InterpreterState). it.pending) (sym same)
 
-  pub sub_goes : (deed_of interpreter moment command).state.ended ≡ interpreter.ended
+  pub sub_goes : (effect_of interpreter moment command).state.ended ≡ interpreter.ended
   sub_goes = ap (λ (it : InterpreterState). it.ended) (sym same)
 
 -- acts of the EXEC's, and what follows them
-pub followed_left : (at : ExecState) (deeds : List (Deed InterpreterState)) (more : List (Deed ExecState))
-    → left_by at (map (lifted at) deeds ++ more) ≡ left_by (record at { interpreter = left_by at.interpreter deeds }) more
-followed_left at deeds more =
-    left_append (map (lifted at) deeds) more at ∙ ap (λ (it : ExecState). left_by it more) (left_lifted at deeds at.interpreter)
+pub followed_left : (at : ExecState) (effects : List (Effect InterpreterState)) (more : List (Effect ExecState))
+    → left_by at (map (lifted at) effects ++ more) ≡ left_by (record at { interpreter = left_by at.interpreter effects }) more
+followed_left at effects more =
+    left_append (map (lifted at) effects) more at ∙ ap (λ (it : ExecState). left_by it more) (left_lifted at effects at.interpreter)
 
 -- at the end of a file a command that waits acts
 completion_stands : (at : ExecState) (pending : Pending) → at.interpreter.typing ≡ None → is_pending pending.command ≡ true
-    → StandsClosed at.taken (left_by at (completion_deeds (unwaiting at) (pending_complete pending)))
+    → StandsClosed at.taken (left_by at (completion_effects (unwaiting at) (pending_complete pending)))
 completion_stands at pending line waits =
     let on = unwaiting at in
     let whole = pending_complete pending in
-    let deeds = subcommand_deeds on.interpreter whole in
+    let effects = subcommand_effects on.interpreter whole in
     let answer = completion_answer on.interpreter whole in
     let takes : takes_subs whole.command ≡ true = complete_stays pending.command waits in
     let over : is_pending whole.command ≡ false = complete_waits_not pending.command waits in
-    let left : left_by on.interpreter deeds ≡ (deed_of on.interpreter whole.moment whole.command).state
+    let left : left_by on.interpreter effects ≡ (effect_of on.interpreter whole.moment whole.command).state
     = ap (λ (more : Bool). left_by (record on.interpreter { pending = Some whole })
-    (cond more [] (deed_of on.interpreter whole.moment whole.command ∷ []))) over in
-    subst (λ (it : ExecState). StandsClosed at.taken it) (sym (followed_left on deeds (behind_end (record on { interpreter = left_by on.interpreter deeds }) answer)))
-    (behind_stands (record on { interpreter = left_by on.interpreter deeds }) answer
+    (cond more [] (effect_of on.interpreter whole.moment whole.command ∷ []))) over in
+    subst (λ (it : ExecState). StandsClosed at.taken it) (sym (followed_left on effects (after_end (record on { interpreter = left_by on.interpreter effects }) answer)))
+    (after_stands (record on { interpreter = left_by on.interpreter effects }) answer
     (ap (λ (it : InterpreterState). it.typing) left ∙ sub_line on.interpreter whole.moment whole.command takes over ∙ line)
     (ap (λ (it : InterpreterState). it.pending) left ∙ sub_free on.interpreter whole.moment whole.command takes over))
 
 end_stands : (at : ExecState) → at.interpreter.typing ≡ None → Waits at.interpreter.pending
-    → StandsClosed at.taken (left_by at (end_deeds at at.interpreter.pending))
+    → StandsClosed at.taken (left_by at (end_effects at at.interpreter.pending))
 end_stands at line waits = by at.interpreter.pending refl waits where
-  by : (pending : Option Pending) → at.interpreter.pending ≡ pending → Waits pending → StandsClosed at.taken (left_by at (end_deeds at pending))
+  by : (pending : Option Pending) → at.interpreter.pending ≡ pending → Waits pending → StandsClosed at.taken (left_by at (end_effects at pending))
   by None is free = closes_stand at line is
   by (Some pending) is waits = completion_stands at pending line waits
 
--- behind an act the files that are open go on
+-- after an act the files that are open go on
 pub settles_stand : (at : ExecState) → at.interpreter.typing ≡ None → Waits at.interpreter.pending → (length at.files == 0) ≡ false
     → StandsClosed at.taken (left_by at (settles at))
 unfolding settles
 settles_stand at line waits some = by (is_over (innermost at.files)) refl where
   by : (over : Bool) → is_over (innermost at.files) ≡ over
-      → StandsClosed at.taken (left_by at (cond over (end_deeds at at.interpreter.pending) (looks_ahead at)))
+      → StandsClosed at.taken (left_by at (cond over (end_effects at at.interpreter.pending) (looks_ahead at)))
   by true is = end_stands at line waits
   by false is = looks_stand at line waits some is
 
@@ -242,16 +242,16 @@ settles_stand at line waits some = by (is_over (innermost at.files)) refl where
 settles_none : (at : ExecState) → at.files ≡ [] → settles at ≡ []
 unfolding settles looks_ahead
 settles_none at none =
-    ap (λ (files : List (List (List ℕ))). cond (is_over (innermost files)) (end_deeds at at.interpreter.pending)
-    (fault_deeds at (next_fault at.taken (innermost files)))) none
+    ap (λ (files : List (List (List ℕ))). cond (is_over (innermost files)) (end_effects at at.interpreter.pending)
+    (fault_effects at (next_fault at.taken (innermost files)))) none
 
 settles_quiet : (at : ExecState) (taken : ℕ) → IsQuiet at → Stands taken (left_by at (settles at))
 settles_quiet at taken quiet =
-    subst (λ (deeds : List (Deed ExecState)). Stands taken (left_by at deeds)) (sym (settles_none at quiet.files)) (quiet_stands taken at quiet)
+    subst (λ (effects : List (Effect ExecState)). Stands taken (left_by at effects)) (sym (settles_none at quiet.files)) (quiet_stands taken at quiet)
 
 settles_closed : (at : ExecState) (taken : ℕ) → AreClosed at → StandsClosed taken (left_by at (settles at))
 settles_closed at taken closed =
-    subst (λ (deeds : List (Deed ExecState)). StandsClosed taken (left_by at deeds)) (sym (settles_none at closed.files)) (λ going. inl closed)
+    subst (λ (effects : List (Effect ExecState)). StandsClosed taken (left_by at effects)) (sym (settles_none at closed.files)) (λ going. inl closed)
 
 pub follows_quiet : (at : ExecState) (taken : ℕ) (answer : Acted) → IsQuiet at → Stands taken (left_by at (follows at answer))
 unfolding follows

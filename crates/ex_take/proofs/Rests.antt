@@ -7,19 +7,19 @@ use Rattle.cm_lists.proofs.Bools.{and_first, and_second}
 use Rattle.cm_lists.proofs.Options.{none_of_not_some}
 use Rattle.cm_lists.proofs.Pieces.{cons_is_not_empty}
 use Rattle.cm_fields.specs.declared.code.Code.{Code}
-use Rattle.cm_run.specs.Meaning.{Deed}
+use Rattle.cm_run.specs.Semantics.{Effect}
 use Rattle.cm_run.specs.Obey.{left_by}
 use Rattle.cm_run.specs.declared.engine.TheConstants.{FILE_LINES}
 use Rattle.ex_commands.specs.Command.{is_pending}
 use Rattle.ex_commands.specs.declared.command.Command.{Command}
 use Rattle.ex_commands.specs.declared.command.Command.TheVariants as commands
 use Rattle.ex_store.specs.declared.place.Place.{Place}
-use Rattle.ex_take.specs.Exec.{command_deeds, refuses, stopped}
+use Rattle.ex_take.specs.Exec.{command_effects, refuses, stopped}
 use Rattle.ex_take.specs.ExecState.{ExecState}
 use Rattle.ex_take.specs.Interpreter.{is_free}
 use Rattle.ex_take.specs.Taking.{RestsUnlessEnded, is_at_rest}
 use Rattle.ex_take.proofs.Quiet.{AreClosed, StandsClosed, stopped_closed}
-use Rattle.ex_take.proofs.QuietKeys.{all_closed, behind}
+use Rattle.ex_take.proofs.QuietKeys.{after, all_closed}
 use Rattle.ex_take.proofs.QuietLines.{commands_closed}
 
 no_file : (files : List (List (List ℕ))) → (length files == 0) ≡ true → files ≡ []
@@ -58,13 +58,13 @@ rest_of : (at : ExecState) → at.interpreter.ended ≡ false → AreClosed at �
 rest_of at going closed = rw (going, closed.free, closed.line, closed.files, closed.taken) refl
 
 module _ (at : ExecState) (moment : ℕ) (rests : is_at_rest at ≡ true) where
-  -- behind these acts, and the lines of the command files that they open
-  abbrev pub Rest : List (Deed ExecState) → Type 0
-  Rest deeds = RestsUnlessEnded (behind moment FILE_LINES (left_by at deeds))
+  -- after these acts, and the lines of the command files that they open
+  abbrev pub Rest : List (Effect ExecState) → Type 0
+  Rest effects = RestsUnlessEnded (after moment FILE_LINES (left_by at effects))
 
-  rest_by : (deeds : List (Deed ExecState)) → StandsClosed 0 (left_by at deeds) → Rest deeds
-  rest_by deeds stands = λ going.
-      rest_of (behind moment FILE_LINES (left_by at deeds)) going (all_closed moment (left_by at deeds) stands going)
+  rest_by : (effects : List (Effect ExecState)) → StandsClosed 0 (left_by at effects) → Rest effects
+  rest_by effects stands = λ going.
+      rest_of (after moment FILE_LINES (left_by at effects)) going (all_closed moment (left_by at effects) stands going)
 
   pub nothing_rests : Rest []
   nothing_rests = rest_by [] (λ going. inl (closed_of at rests))
@@ -74,8 +74,8 @@ module _ (at : ExecState) (moment : ℕ) (rests : is_at_rest at ≡ true) where
 
   -- a command that neither types a file in nor waits
   pub command_rests : (command : Command) → ((to : Place) → command ≡ commands.CopyTty to → ⊥) → is_pending command ≡ false
-      → Rest (command_deeds at moment command)
-  command_rests command other done = rest_by (command_deeds at moment command) (commands_closed at moment command (closed_of at rests) other done)
+      → Rest (command_effects at moment command)
+  command_rests command other done = rest_by (command_effects at moment command) (commands_closed at moment command (closed_of at rests) other done)
 
 pub stopped_rests : (at : ExecState) (code : Code) → is_at_rest at ≡ true → RestsUnlessEnded (stopped code at)
 stopped_rests at code rests = λ going.

@@ -147,7 +147,7 @@ may_want (commands.CopyTty to) lacks = refl
 may_want (commands.Take file) lacks = refl
 may_want command lacks = lacks
 
--- a file that is to be typed in has a target behind the act too
+-- a file that is to be typed in has a target after the act too
 begins-state : (to : Place) (state : State) → (begins to state).state ≡ state
 begins-state to state = by (lacks_name to) where
   by : (b : Bool) → (cond b (refuses NameNeeded state) (record { answer = answers.Data; reply = []; state = state })).state ≡ state
@@ -182,7 +182,7 @@ target_kept interpreter moment command line target = by (comes command moment in
       (becomes-taken interpreter moment command (act_of command moment interpreter.state) answer)) typing some)
   by (Comes.ended is answer) = λ typing some. absurd (untyped (becomes-ended interpreter moment command (act_of command moment interpreter.state) answer) typing some)
 
--- where none waits, none waits behind a command that acts
+-- where none waits, none waits after a command that acts
 pub free_kept : (interpreter : InterpreterState) (moment : ℕ) (command : Command) → is_pending command ≡ false
     → (becomes interpreter moment command (act_of command moment interpreter.state).answer).pending ≡ interpreter.pending
 unfolding becomes

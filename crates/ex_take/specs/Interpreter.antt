@@ -2,7 +2,7 @@
 use Rattle.std.specs.Prelude.{ℕ, ◌&&◌, not, is_some, Bool, true, false, if◌then◌else◌, List, [], ◌∷◌, Option, None, Some, option_map}
 use Rattle.cm_state.specs.SessionState.{SessionState, text_of}
 use Rattle.cm_state.specs.declared.prompt.Prompt.TheVariants.{Main, Sub}
-use Rattle.cm_run.specs.Meaning.{Deed}
+use Rattle.cm_run.specs.Semantics.{Effect}
 use Rattle.cm_run.specs.declared.mode.Mode.{Mode}
 use Rattle.cm_run.specs.declared.mode.Mode.TheVariants as mode
 use Rattle.ex_grammar.specs.declared.node.TheConstants.{COMMANDS}
@@ -12,7 +12,7 @@ use Rattle.ex_store.specs.declared.place.Place.{Place}
 use Rattle.ex_commands.specs.Act.{Act, act_of, writes}
 use Rattle.ex_commands.specs.Answer.{may_allocate}
 use Rattle.ex_commands.specs.Command.{added, command_of, complete, is_pending, subcommand_node}
-use Rattle.ex_commands.specs.Typed.{bytes_behind, echo_of, echo_text, turn_of}
+use Rattle.ex_commands.specs.FileTyping.{bytes_after, echo_of, echo_text, turn_of}
 use Rattle.ex_commands.specs.declared.acted.Acted.{Acted}
 use Rattle.ex_commands.specs.declared.acted.Acted.TheVariants as answers
 use Rattle.ex_commands.specs.declared.command.Command.{Command}
@@ -28,7 +28,7 @@ abbrev pub line_mode : Option Pending → Mode
 line_mode (Some pending) = mode.Line (subcommand_node pending.command) Sub false
 line_mode None = mode.Line COMMANDS Main true
 
--- behind LOGOUT there are no more keys; those of a file that is typed in are raw; each other is for a line
+-- after LOGOUT there are no more keys; those of a file that is typed in are raw; each other is for a line
 abbrev pub mode_by : Bool → Option Typing → Option Pending → Mode
 mode_by true typing pending = mode.Ended
 mode_by false (Some typing) pending = mode.Raw
@@ -60,7 +60,7 @@ target_of command = None
 abbrev pub typing_to : ℕ → Place → Typing
 typing_to moment to = record { to = to; moment = moment; typed = [] }
 
--- what the EXEC becomes by this answer: behind COPY TTY: a file is typed in, a command with subcommands waits for them,
+-- what the EXEC becomes by this answer: after COPY TTY: a file is typed in, a command with subcommands waits for them,
 -- and LOGOUT ends the run; the lines of a file are not taken here
 unfoldable pub becomes : InterpreterState → ℕ → Command → Acted → InterpreterState
 becomes interpreter moment command answers.Data =
@@ -74,32 +74,32 @@ becomes interpreter moment command (answers.Refused code) = interpreter
 becomes interpreter moment command answers.NoMemory = interpreter
 becomes interpreter moment command answers.Failed = interpreter
 
--- the commands for which memory may be wanting: those that take it, COPY TTY: for what is typed, and TAKE for a file
+-- the commands for which memory may run out: those that take it, COPY TTY: for what is typed, and TAKE for a file
 abbrev pub allocates : Command → Bool
 allocates (commands.CopyTty to) = true
 allocates (commands.Take file) = true
 allocates command = may_allocate command
 
 -- what a command does at a moment
-abbrev pub deed_by : InterpreterState → ℕ → Command → Act → Deed InterpreterState
-deed_by interpreter moment command act = record {
+abbrev pub effect_by : InterpreterState → ℕ → Command → Act → Effect InterpreterState
+effect_by interpreter moment command act = record {
   may_allocate = allocates command;
   state = record (becomes interpreter moment command act.answer) { state = act.state };
   reply = act.reply;
 }
 
-abbrev pub deed_of : InterpreterState → ℕ → Command → Deed InterpreterState
-deed_of interpreter moment command = deed_by interpreter moment command (act_of command moment interpreter.state)
+abbrev pub effect_of : InterpreterState → ℕ → Command → Effect InterpreterState
+effect_of interpreter moment command = effect_by interpreter moment command (act_of command moment interpreter.state)
 
 -- an act that shows nothing and takes no memory
-abbrev pub silent : InterpreterState → Deed InterpreterState
+abbrev pub silent : InterpreterState → Effect InterpreterState
 silent interpreter = record { may_allocate = false; state = interpreter; reply = [] }
 
--- behind its last subcommand a command acts, at the moment of its main line
-abbrev pub completion : InterpreterState → Pending → List (Deed InterpreterState)
+-- after its last subcommand a command acts, at the moment of its main line
+abbrev pub completion : InterpreterState → Pending → List (Effect InterpreterState)
 completion interpreter pending =
     if is_pending pending.command then []
-    else deed_of (record interpreter { pending = None }) pending.moment pending.command ∷ []
+    else effect_of (record interpreter { pending = None }) pending.moment pending.command ∷ []
 
 -- a line of subcommands adds to the command that waits; an empty one ends them
 abbrev pub pending_with : SessionState → Pending → Pending
@@ -115,30 +115,30 @@ completion_answer interpreter pending =
     if is_pending pending.command then answers.Pending
     else (act_of pending.command pending.moment interpreter.state).answer
 
-abbrev pub subcommand_deeds : InterpreterState → Pending → List (Deed InterpreterState)
-subcommand_deeds interpreter pending =
+abbrev pub subcommand_effects : InterpreterState → Pending → List (Effect InterpreterState)
+subcommand_effects interpreter pending =
     silent (record interpreter { pending = Some pending }) ∷ completion interpreter pending
 
 -- what was typed in is written, at the moment of its line
-abbrev pub written_by : InterpreterState → Act → Deed InterpreterState
+abbrev pub written_by : InterpreterState → Act → Effect InterpreterState
 written_by interpreter act =
     record { may_allocate = true; state = record interpreter { state = act.state }; reply = act.reply }
 
-abbrev pub written : InterpreterState → Typing → Deed InterpreterState
+abbrev pub written : InterpreterState → Typing → Effect InterpreterState
 written interpreter typing = written_by interpreter (writes typing.to typing.typed typing.moment interpreter.state)
 
--- what a key of a file that is typed in does, by what it comes to: the typing goes on, or it ends, and with control-Z
+-- what a key of a file that is typed in does, by its outcome: the typing goes on, or it ends, and with control-Z
 -- the file is written
-unfoldable pub typed_deeds : InterpreterState → Typing → DataTurn → List (Deed InterpreterState)
-typed_deeds interpreter typing turns.More = silent (record interpreter { typing = Some typing }) ∷ []
-typed_deeds interpreter typing turns.Write =
+unfoldable pub typed_effects : InterpreterState → Typing → DataTurn → List (Effect InterpreterState)
+typed_effects interpreter typing turns.More = silent (record interpreter { typing = Some typing }) ∷ []
+typed_effects interpreter typing turns.Write =
     silent (record interpreter { typing = None }) ∷ written (record interpreter { typing = None }) typing ∷ []
-typed_deeds interpreter typing turns.Dropped = silent (record interpreter { typing = None }) ∷ []
+typed_effects interpreter typing turns.Dropped = silent (record interpreter { typing = None }) ∷ []
 
-abbrev pub raw_by : InterpreterState → ℕ → Option Typing → List (Deed InterpreterState)
+abbrev pub raw_by : InterpreterState → ℕ → Option Typing → List (Effect InterpreterState)
 raw_by interpreter key None = []
 raw_by interpreter key (Some typing) =
-    typed_deeds interpreter (record typing { typed = bytes_behind typing.typed key })
+    typed_effects interpreter (record typing { typed = bytes_after typing.typed key })
     (turn_of (echo_of typing.typed key))
 
 -- and what is answered: that of the file which is written
@@ -150,7 +150,7 @@ typed_answer interpreter typing turns.Dropped = answers.Ok
 abbrev pub raw_answer : InterpreterState → ℕ → Option Typing → Acted
 raw_answer interpreter key None = answers.Ok
 raw_answer interpreter key (Some typing) =
-    typed_answer interpreter (record typing { typed = bytes_behind typing.typed key })
+    typed_answer interpreter (record typing { typed = bytes_after typing.typed key })
     (turn_of (echo_of typing.typed key))
 
 -- what it shows first

@@ -6,15 +6,16 @@ use Rattle.cm_text.specs.Lines.{lines}
 use Rattle.cm_text.specs.Text.{ends_in_hyphen, joined}
 use Rattle.cm_text.specs.declared.text.TheConstants.{LINE_LIMIT}
 
--- a line and those behind it: one that ends in a hyphen and is not the last is continued by the next, and goes on so
-abbrev pub joined_behind : List ℕ → List (List ℕ) → List (List ℕ)
-joined_behind line [] = line ∷ []
-joined_behind line (next ∷ others) =
-    if ends_in_hyphen line then joined_behind (joined line ++ next) others else line ∷ joined_behind next others
+-- a line and those after it: one that ends in a hyphen and is not the last is continued by the next, and goes on so
+abbrev pub joined_after : List ℕ → List (List ℕ) → List (List ℕ)
+joined_after line [] = line ∷ []
+joined_after line (next ∷ others) =
+    if ends_in_hyphen line then joined_after (joined line ++ next) others else line ∷ joined_after next others
 
+-- [joined-line]
 abbrev pub joined_lines : List (List ℕ) → List (List ℕ)
 joined_lines [] = []
-joined_lines (line ∷ others) = joined_behind line others
+joined_lines (line ∷ others) = joined_after line others
 
 -- the lines of a command file with these bytes. A line of a text has no line feed, so that each join byte in one of
 -- these was made here

@@ -15,7 +15,7 @@ outcome_of answers.Logout = Ok tt
 outcome_of answers.NoMemory = Err stop.Memory
 outcome_of answers.Failed = Err stop.Screen
 
--- memory was wanting
+-- memory ran out
 abbrev pub lacks_memory : Result Unit Stop → Bool
 lacks_memory (Ok value) = false
 lacks_memory (Err stop.Memory) = true

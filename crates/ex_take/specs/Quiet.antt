@@ -15,6 +15,6 @@ pub record IsQuiet (at : ExecState) : Type 0 where
   pub taken : at.taken ≡ 0
   pub waits : Waits at.interpreter.pending
 
--- or LOGOUT has acted, behind which there are no keys
+-- or LOGOUT has acted, after which there are no keys
 abbrev pub IsQuietUnlessEnded : ExecState → Type 0
 IsQuietUnlessEnded at = at.interpreter.ended ≡ false → IsQuiet at

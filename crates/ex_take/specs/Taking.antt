@@ -4,23 +4,23 @@ use Rattle.cm_fields.specs.declared.code.Code.{Code}
 use Rattle.cm_run.specs.Cut.{Traces}
 use Rattle.cm_run.specs.Event.{Event}
 use Rattle.cm_run.specs.Obey.{left_by}
-use Rattle.cm_run.specs.Observed.{Observed}
-use Rattle.cm_run.specs.Trace.{deeds_trace, file_trace}
+use Rattle.cm_run.specs.Observation.{Observation}
+use Rattle.cm_run.specs.Trace.{effects_trace, file_trace}
 use Rattle.cm_run.specs.declared.engine.TheConstants.{FILE_LINES}
 use Rattle.cm_run.specs.declared.stop.Stop.{Stop}
 use Rattle.cm_run.specs.declared.stop.Stop.TheVariants as stop
 use Rattle.ex_store.specs.declared.place.Place.{Place}
-use Rattle.ex_take.specs.Exec.{take_deeds, exec_meaning}
+use Rattle.ex_take.specs.Exec.{take_effects, exec_semantics}
 use Rattle.ex_take.specs.ExecState.{ExecState}
 use Rattle.ex_take.specs.Interpreter.{is_free}
 use Rattle.ex_take.specs.declared.taking.Took.{Took}
 use Rattle.ex_take.specs.declared.taking.Took.TheVariants as took
 
--- the file is opened, and its lines are taken, as behind a typed line
+-- the file is opened, and its lines are taken, as after a typed line
 abbrev pub take_trace : ExecState → Place → ℕ → List (Event ExecState)
 take_trace at file moment =
-    deeds_trace (take_deeds at file)
-    ++ file_trace exec_meaning FILE_LINES moment (left_by at (take_deeds at file))
+    effects_trace (take_effects at file)
+    ++ file_trace exec_semantics FILE_LINES moment (left_by at (take_effects at file))
 
 -- nothing is left to be done: no command waits, no file is typed in, and none is open
 abbrev pub rested : ExecState → ExecState
@@ -35,11 +35,11 @@ abbrev pub is_at_rest : ExecState → Bool
 is_at_rest at =
     not at.interpreter.ended && (is_free at.interpreter && (length at.files == 0 && at.taken == 0))
 
--- the trace of a file, or a cut of it, behind which nothing is left to be done
-pub record Takes (before now : Observed ExecState) (events : List (Event ExecState)) (went : Result Unit Stop)
+-- [take] the trace of a file, or a cut of it, after which nothing is left to be done
+pub record Takes (before now : Observation ExecState) (events : List (Event ExecState)) (outcome : Result Unit Stop)
     : Type 0 where
   pub left : ExecState
-  pub traces : Traces before (record now { state = left }) events went
+  pub traces : Traces before (record now { state = left }) events outcome
   pub rests : now.state ≡ rested left
 
 -- whether it was cut short

@@ -5,7 +5,7 @@ ghost use Rattle.std.specs.Option.{option_copied};
 ghost use Rattle.cm_text.specs.Bytes.{is_line_byte};
 ghost use Rattle.cm_text.specs.Lines.{lines};
 ghost use Rattle.cm_text.specs.Text.{IsLine, ends_in_hyphen, joined};
-ghost use Rattle.ex_take.specs.Lines.{file_lines, is_line, joined_behind, lines_from, first_is_line, first_line};
+ghost use Rattle.ex_take.specs.Lines.{file_lines, is_line, joined_after, lines_from, first_is_line, first_line};
 
 use cm_io::NoMemory;
 use cm_text::{JOIN, LINE_LIMIT, ends_in_hyphen, first_line, is_line_byte};
@@ -34,7 +34,7 @@ impl Default for CommandFile {
 }
 
 // The bytes of a file, of which each line is read once: the line that is next, whether it can be parsed, and where the
-// one behind it begins; none where no line is left.
+// one after it begins; none where no line is left.
 #[derive(Drop)]
 struct Reading {
     bytes: Vec<u8>,
@@ -92,7 +92,7 @@ impl Reading {
         }
     }
 
-    // Passes the next line, and reads the one behind it.
+    // Passes the next line, and reads the one after it.
     fn pass(&mut self)
         ensures { self.new ≡ drop 1 self.old }
     {
@@ -177,7 +177,7 @@ fn join(next: &[u8], line: &mut Vec<u8>)
 #[tactic(auto, using(crate::proofs::LineLaws::whole_line), unfolding(crate::specs::Lines::file_lines))]
 fn join_lines(bytes: &[u8], line: &mut Vec<u8>) -> usize
     requires room { length line.old.items + length bytes.now ≤ vec_capacity line.old }
-    ensures lines { joined_behind line.old.items (lines bytes.now)
+    ensures lines { joined_after line.old.items (lines bytes.now)
         ≡ line.new.items ∷ file_lines (drop result bytes.now) }
     ensures within { result ≤ length bytes.now }
     ensures room { vec_capacity line.old ≤ vec_capacity line.new }
@@ -197,7 +197,7 @@ fn join_lines(bytes: &[u8], line: &mut Vec<u8>) -> usize
 }
 
 // The bytes from a place on.
-fn behind(bytes: &[u8], at: usize) -> &[u8]
+fn after(bytes: &[u8], at: usize) -> &[u8]
     requires { at ≤ length bytes.now }
     ensures { result.now ≡ drop at bytes.now }
 {
@@ -209,15 +209,16 @@ fn behind(bytes: &[u8], at: usize) -> &[u8]
 fn read_line(bytes: &[u8], at: usize, line: &mut Vec<u8>) -> Option<usize>
     requires within { at ≤ length bytes.now }
     requires room { length bytes.now ≤ vec_capacity line.old }
+    // [joined-line]
     ensures lines { lines_from bytes.now line.new.items result ≡ file_lines (drop at bytes.now) }
     ensures within { IfSome result (λ next. next ≤ length bytes.now) }
     ensures room { vec_capacity line.old ≤ vec_capacity line.new }
 {
-    let rest = behind(bytes, at);
+    let rest = after(bytes, at);
     match first_line(rest) {
         Some(first) => {
             set(&rest[..first.end], line);
-            Some(at + first.next + join_lines(behind(rest, first.next), line))
+            Some(at + first.next + join_lines(after(rest, first.next), line))
         }
         None => None,
     }

@@ -83,7 +83,7 @@ impl Exec {
     }
 
     /// Why a line was refused last, by what it commands or as a line of a command file; none where a file was opened
-    /// since, or it was forgiven. Behind `take` that is why the file was closed before its end.
+    /// since, or it was forgiven. After `take` that is why the file was closed before its end.
     pub fn stop(&self) -> Option<Code>
         ensures { result ≡ self.now.stop }
     {

@@ -7,9 +7,9 @@ ghost use Rattle.cm_blocks.specs.Parse.{IsParse};
 ghost use Rattle.cm_blocks.specs.Setting.{setting};
 ghost use Rattle.cm_blocks.specs.declared.field.Ending.TheVariants as ending;
 ghost use Rattle.cm_io.specs.Fault.{PutCause};
-ghost use Rattle.cm_io.specs.Told.{Adds};
+ghost use Rattle.cm_io.specs.Contents.{Adds};
 ghost use Rattle.cm_run.specs.Cause.{ObeyCause};
-ghost use Rattle.cm_run.specs.Meaning.{IsModeOf};
+ghost use Rattle.cm_run.specs.Semantics.{IsModeOf};
 ghost use Rattle.cm_run.specs.Obey.{Obeys, stage};
 ghost use Rattle.cm_state.specs.SessionState.{text_of};
 ghost use Rattle.ex_commands.specs.Act.{act_of, begins, writes};
@@ -20,7 +20,7 @@ ghost use Rattle.ex_grammar.specs.ExecRules.{exec_meanings};
 ghost use Rattle.ex_grammar.specs.Graph.{exec_graph};
 ghost use Rattle.ex_grammar.specs.declared.node.TheConstants.{COMMANDS};
 ghost use Rattle.ex_store.specs.State.{catalogue_of};
-ghost use Rattle.ex_take.specs.Interpreter.{allocates, becomes, command_at, completion_answer, deed_of, echo_by, is_free, line_mode, mode_of, pending_complete, pending_with, raw_answer, raw_by, subcommand_deeds, written};
+ghost use Rattle.ex_take.specs.Interpreter.{allocates, becomes, command_at, completion_answer, echo_by, effect_of, is_free, line_mode, mode_of, pending_complete, pending_with, raw_answer, raw_by, subcommand_effects, written};
 ghost use Rattle.ex_take.specs.InterpreterState.{InterpreterState, interpreter_start};
 ghost use Rattle.ex_take.specs.Outcome.{lacks_memory, outcome_of};
 
@@ -158,7 +158,7 @@ impl Interpreter {
         requires target { IsTarget typing.to self.old.state.directories }
         requires over { self.old.typing ≡ None }
         requires free { self.old.pending ≡ None }
-        ensures obeys { Obeys (stage (S.told screen.old) self.old) (stage (S.told screen.new) self.new)
+        ensures obeys { Obeys (stage (S.contents screen.old) self.old) (stage (S.contents screen.new) self.new)
             (written self.old typing ∷ []) (outcome_of result) }
         ensures answer { outcome_of result ≡ Ok tt
             → result ≡ (writes typing.to typing.typed typing.moment self.old.state).answer }
@@ -175,8 +175,8 @@ impl Interpreter {
         requires acts { is_pending command.now ≡ false }
         requires line { self.old.typing ≡ None }
         requires free { self.old.pending ≡ None }
-        ensures obeys { Obeys (stage (S.told screen.old) self.old) (stage (S.told screen.new) self.new)
-            (deed_of self.old moment command.now ∷ []) (outcome_of result) }
+        ensures obeys { Obeys (stage (S.contents screen.old) self.old) (stage (S.contents screen.new) self.new)
+            (effect_of self.old moment command.now ∷ []) (outcome_of result) }
         ensures answer { outcome_of result ≡ Ok tt → result ≡ (act_of command.now moment self.old.state).answer }
         ensures later { S.faults screen.old ≤ S.faults screen.new }
         ensures cause { ObeyCause (S.faults screen.old) (S.faults screen.new) (outcome_of result) }
@@ -192,8 +192,8 @@ impl Interpreter {
         requires may_act { MayAct command self.old.state }
         requires line { self.old.typing ≡ None }
         requires free { self.old.pending ≡ None }
-        ensures obeys { Obeys (stage (S.told screen.old) self.old) (stage (S.told screen.new) self.new)
-            (deed_of self.old moment command ∷ []) (outcome_of result) }
+        ensures obeys { Obeys (stage (S.contents screen.old) self.old) (stage (S.contents screen.new) self.new)
+            (effect_of self.old moment command ∷ []) (outcome_of result) }
         ensures answer { outcome_of result ≡ Ok tt → result ≡ (act_of command moment self.old.state).answer }
         ensures later { S.faults screen.old ≤ S.faults screen.new }
         ensures cause { ObeyCause (S.faults screen.old) (S.faults screen.new) (outcome_of result) }
@@ -205,14 +205,14 @@ impl Interpreter {
         self.do_command(&command, moment, screen)
     }
 
-    // Does a command behind its last subcommand, or has it wait on where memory is wanting.
+    // Does a command after its last subcommand, or has it wait on where memory runs out.
     fn complete<S: Sink>(&mut self, pending: Pending, screen: &mut S) -> Acted
         requires may_act { MayAct pending.command self.old.state }
         requires acts { is_pending pending.command ≡ false }
         requires line { self.old.typing ≡ None }
         requires free { self.old.pending ≡ None }
-        ensures obeys { Obeys (stage (S.told screen.old) (record self.old { pending = Some pending }))
-            (stage (S.told screen.new) self.new) (deed_of self.old pending.moment pending.command ∷ [])
+        ensures obeys { Obeys (stage (S.contents screen.old) (record self.old { pending = Some pending }))
+            (stage (S.contents screen.new) self.new) (effect_of self.old pending.moment pending.command ∷ [])
             (outcome_of result) }
         ensures answer { outcome_of result ≡ Ok tt
             → result ≡ (act_of pending.command pending.moment self.old.state).answer }
@@ -233,8 +233,8 @@ impl Interpreter {
         requires may_act { MayAct pending.command self.old.state }
         requires line { self.old.typing ≡ None }
         requires free { self.old.pending ≡ None }
-        ensures obeys { (before : InterpreterState) → Obeys (stage (S.told screen.old) before)
-            (stage (S.told screen.new) self.new) (subcommand_deeds self.old pending) (outcome_of result) }
+        ensures obeys { (before : InterpreterState) → Obeys (stage (S.contents screen.old) before)
+            (stage (S.contents screen.new) self.new) (subcommand_effects self.old pending) (outcome_of result) }
         ensures answer { outcome_of result ≡ Ok tt → result ≡ completion_answer self.old pending }
         ensures later { S.faults screen.old ≤ S.faults screen.new }
         ensures cause { ObeyCause (S.faults screen.old) (S.faults screen.new) (outcome_of result) }
@@ -256,7 +256,7 @@ impl Interpreter {
         self.pending.take()
     }
 
-    /// Adds a line of subcommands to a command that waited; behind an empty one it acts.
+    /// Adds a line of subcommands to a command that waited; after an empty one it acts.
     pub fn add_subcommands<S: Sink>(
         &mut self,
         mut pending: Pending,
@@ -268,8 +268,8 @@ impl Interpreter {
             (subcommand_node pending.command) (text_of session.now) session.now.fields ending.Done }
         requires line { self.old.typing ≡ None }
         requires free { self.old.pending ≡ None }
-        ensures obeys { (before : InterpreterState) → Obeys (stage (S.told screen.old) before)
-            (stage (S.told screen.new) self.new) (subcommand_deeds self.old (pending_with session.now pending))
+        ensures obeys { (before : InterpreterState) → Obeys (stage (S.contents screen.old) before)
+            (stage (S.contents screen.new) self.new) (subcommand_effects self.old (pending_with session.now pending))
             (outcome_of result) }
         ensures answer { outcome_of result ≡ Ok tt
             → result ≡ completion_answer self.old (pending_with session.now pending) }
@@ -287,8 +287,8 @@ impl Interpreter {
         requires may_act { MayAct pending.command self.old.state }
         requires line { self.old.typing ≡ None }
         requires free { self.old.pending ≡ None }
-        ensures obeys { (before : InterpreterState) → Obeys (stage (S.told screen.old) before)
-            (stage (S.told screen.new) self.new) (subcommand_deeds self.old (pending_complete pending))
+        ensures obeys { (before : InterpreterState) → Obeys (stage (S.contents screen.old) before)
+            (stage (S.contents screen.new) self.new) (subcommand_effects self.old (pending_complete pending))
             (outcome_of result) }
         ensures answer { outcome_of result ≡ Ok tt
             → result ≡ completion_answer self.old (pending_complete pending) }
@@ -338,7 +338,7 @@ impl Interpreter {
     /// Shows what a key of a file that is typed in does, and does nothing yet.
     #[tactic(auto, using(cm_io::proofs::Additions::add_none))]
     pub fn echo_raw<S: Sink>(&self, key: u8, screen: &mut S) -> Put
-        ensures bytes { Adds (S.told screen.old) (S.told screen.new) (echo_by key self.now.typing) result }
+        ensures bytes { Adds (S.contents screen.old) (S.contents screen.new) (echo_by key self.now.typing) result }
         ensures later { S.faults screen.old ≤ S.faults screen.new }
         ensures cause { PutCause (S.faults screen.old) (S.faults screen.new) result }
     {
@@ -349,9 +349,9 @@ impl Interpreter {
     }
 
     /// Takes a key of a file that is typed in.
-    #[tactic(auto, using(cm_run::proofs::Acts::obeys_nothing, crate::proofs::CommandAnswers::obeys_silent), unfolding(cm_run::specs::Cause::ObeyCause, crate::specs::Interpreter::typed_deeds))]
+    #[tactic(auto, using(cm_run::proofs::Acts::obeys_nothing, crate::proofs::CommandAnswers::obeys_silent), unfolding(cm_run::specs::Cause::ObeyCause, crate::specs::Interpreter::typed_effects))]
     pub fn obey_raw<S: Sink>(&mut self, key: u8, screen: &mut S) -> Acted
-        ensures obeys { Obeys (stage (S.told screen.old) self.old) (stage (S.told screen.new) self.new)
+        ensures obeys { Obeys (stage (S.contents screen.old) self.old) (stage (S.contents screen.new) self.new)
             (raw_by self.old key self.old.typing) (outcome_of result) }
         ensures answer { outcome_of result ≡ Ok tt → result ≡ raw_answer self.old key self.old.typing }
         ensures later { S.faults screen.old ≤ S.faults screen.new }
@@ -371,7 +371,7 @@ impl Interpreter {
     }
 }
 
-// Whether memory was wanting.
+// Whether memory ran out.
 fn lacks_memory(answer: Acted) -> bool
     ensures { result ≡ lacks_memory (outcome_of answer) }
 {

@@ -1,11 +1,11 @@
 // A command file that is taken without keys.
 ghost use Rattle.std.specs.Prelude.{◌≡◌, ◌≤◌, ℕ, List, Ok, true};
-ghost use Rattle.cm_io.specs.Told.{Told};
+ghost use Rattle.cm_io.specs.Contents.{Contents};
 ghost use Rattle.cm_run.specs.Cause.{ObeyCause};
 ghost use Rattle.cm_run.specs.Cut.{Traces};
-ghost use Rattle.cm_run.specs.Observed.{observed};
+ghost use Rattle.cm_run.specs.Observation.{observation};
 ghost use Rattle.ex_store.specs.Plan.{IsSource};
-ghost use Rattle.ex_take.specs.Exec.{exec_meaning};
+ghost use Rattle.ex_take.specs.Exec.{exec_semantics};
 ghost use Rattle.ex_take.specs.Taking.{Rests, Takes, is_at_rest, outcome_of, take_trace, took_by, took_of};
 
 use crate::Exec;
@@ -44,11 +44,11 @@ pub fn take<S: Sink, L: Ledger>(
 ) -> Took
     requires rest { is_at_rest exec.old ≡ true }
     requires source { IsSource file.now exec.old.interpreter.state }
-    requires grammar { grammar.now ≡ exec_meaning.graph }
-    // What stands is the trace of the file, or a cut of it.
-    ensures takes { (log : Told) → (keys : List ℕ) → (gets : ℕ) → (moments : List ℕ) → Takes
-        (observed (S.told screen.old) log keys gets moments steps.old exec.old)
-        (observed (S.told screen.new) log keys gets moments steps.new exec.new)
+    requires grammar { grammar.now ≡ exec_semantics.graph }
+    // [take] What stands is the trace of the file, or a cut of it.
+    ensures takes { (log : Contents) → (keys : List ℕ) → (gets : ℕ) → (moments : List ℕ) → Takes
+        (observation (S.contents screen.old) log keys gets moments steps.old exec.old)
+        (observation (S.contents screen.new) log keys gets moments steps.new exec.new)
         (take_trace exec.old file.now moment) (outcome_of result) }
     // Where it was not cut, it is told by what it left.
     ensures outcome { outcome_of result ≡ Ok tt → result ≡ took_of exec.new }
@@ -71,10 +71,10 @@ fn take_lines<S: Sink, L: Ledger>(
     steps: &mut Steps<L>,
 ) -> Took
     requires source { IsSource file.now exec.old.interpreter.state }
-    requires grammar { grammar.now ≡ exec_meaning.graph }
-    ensures traces { (log : Told) → (keys : List ℕ) → (gets : ℕ) → (moments : List ℕ) → Traces
-        (observed (S.told screen.old) log keys gets moments steps.old exec.old)
-        (observed (S.told screen.new) log keys gets moments steps.new exec.new)
+    requires grammar { grammar.now ≡ exec_semantics.graph }
+    ensures traces { (log : Contents) → (keys : List ℕ) → (gets : ℕ) → (moments : List ℕ) → Traces
+        (observation (S.contents screen.old) log keys gets moments steps.old exec.old)
+        (observation (S.contents screen.new) log keys gets moments steps.new exec.new)
         (take_trace exec.old file.now moment) (outcome_of result) }
     ensures outcome { outcome_of result ≡ Ok tt → result ≡ took_of exec.new }
     ensures later { S.faults screen.old ≤ S.faults screen.new }
@@ -90,10 +90,10 @@ fn take_lines<S: Sink, L: Ledger>(
 }
 
 // What came of a file whose lines went so.
-fn took_by(exec: &Exec, went: Result<(), Stop>) -> Took
-    ensures { result ≡ took_by exec.now went }
+fn took_by(exec: &Exec, end: Result<(), Stop>) -> Took
+    ensures { result ≡ took_by exec.now end }
 {
-    match went {
+    match end {
         Ok(()) => took_of(exec),
         Err(Stop::Memory) => Took::NoMemory,
         Err(_) => Took::Failed,

@@ -30,7 +30,7 @@ struct Outside {
 #[derive(Clone, Copy)]
 enum Answer {
     Took(Took),
-    Went(Result<(), Stop>),
+    Ended(Result<(), Stop>),
     None,
 }
 
@@ -99,16 +99,16 @@ fn answer_of<L: Ledger>(
         return take_file(exec, &file, &mut outside.screen, grammar, steps);
     }
     if step == "keys" {
-        return Answer::Went(run_keys(exec, outside, grammar, steps));
+        return Answer::Ended(run_keys(exec, outside, grammar, steps));
     }
-    Answer::Went(run_lines(exec, grammar, 0, &mut outside.screen, steps))
+    Answer::Ended(run_lines(exec, grammar, 0, &mut outside.screen, steps))
 }
 
 // An answer, as a case writes it.
 fn answer_text(alloc: Global, answer: Answer) -> Result<String, AllocError> {
     match answer {
         Answer::Took(took) => format!(in alloc; "{took:?}"),
-        Answer::Went(went) => format!(in alloc; "{went:?}"),
+        Answer::Ended(result) => format!(in alloc; "{result:?}"),
         Answer::None => format!(in alloc; "none"),
     }
 }

@@ -1,7 +1,7 @@
 // A command file that takes another, with each put on the screen failing.
 //
-// What must stand is the trace of the whole, cut where a put fails, and the EXEC is at rest behind it. The screen fails
-// in one put alone, and would take what is put behind it.
+// What must stand is the trace of the whole, cut where a put fails, and the EXEC is at rest after it. The screen fails
+// in one put alone, and would take what is put after it.
 ghost use Rattle.std.specs.Prelude.{◌≡◌, ◌<◌};
 ghost use Rattle.ex_grammar.specs.Graph.{exec_graph};
 
@@ -21,7 +21,7 @@ use std::test::Fail;
 const FILES: &str = "file A.CMD|TAKE B.CMD~BUILD <Y>~
 file B.CMD|INF VER~BUILD <X>~COPY A.CMD C.CMD~";
 
-// Behind `act` is the image: as it was, with a directory more, with a file more, and with another directory.
+// After `act` is the image: as it was, with a directory more, with a file more, and with another directory.
 const TRACE: &str =
     "act EXEC20 2|D OPERATOR 1|C OPERATOR|F OPERATOR A.CMD.1 U 1 0 - 21|TAKE B.CMD|BUILD <Y>||\
     F OPERATOR B.CMD.1 U 1 0 - 35|INF VER|BUILD <X>|COPY A.CMD C.CMD||E|
@@ -36,7 +36,7 @@ act EXEC20 2|D OPERATOR 1|D X 1|D Y 1|C OPERATOR|F OPERATOR A.CMD.1 U 1 0 0 21|T
     F OPERATOR B.CMD.1 U 1 0 - 35|INF VER|BUILD <X>|COPY A.CMD C.CMD||\
     F OPERATOR C.CMD.1 U 1 0 - 21|TAKE B.CMD|BUILD <Y>||E|";
 
-// What stands behind a file that was taken.
+// What stands after a file that was taken.
 #[derive(Drop)]
 struct Outcome {
     took: Option<Took>,
@@ -125,7 +125,7 @@ fn try_put<L: Ledger>(
     requires { grammar.now ≡ exec_graph }
 {
     let outcome = outcome_of(alloc, Some(put), part, grammar, steps)?;
-    if is_cut(alloc, &outcome, whole.screen.held_behind(put, part))? {
+    if is_cut(alloc, &outcome, whole.screen.held_after(put, part))? {
         return Ok(());
     }
     let screen = String::from_utf8_lossy(alloc, outcome.screen.bytes())?;

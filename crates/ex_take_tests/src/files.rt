@@ -11,7 +11,7 @@ use ex_take::Exec;
 use std::alloc::{AllocError, Global};
 use std::test::Fail;
 
-/// What stands before a bar, and behind it.
+/// What stands before a bar, and after it.
 pub(crate) fn cut(text: &str) -> (&str, &str) {
     text.split_once('|').unwrap_or((text, ""))
 }
@@ -35,7 +35,7 @@ pub(crate) fn shown_as(alloc: Global, text: &str) -> Result<Vec<u8>, AllocError>
     Ok(bytes)
 }
 
-// Adds the record of a file of OPERATOR: its name, and its bytes behind a bar, each tilde a line feed.
+// Adds the record of a file of OPERATOR: its name, and its bytes after a bar, each tilde a line feed.
 fn push_file(alloc: Global, file: &str, image: &mut Vec<u8>) -> Result<(), AllocError> {
     let (name, text) = cut(file);
     let mut bytes = Vec::new(alloc);

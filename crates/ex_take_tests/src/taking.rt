@@ -1,4 +1,4 @@
-// Command files that `take` takes, and lines that the engine takes behind a run.
+// Command files that `take` takes, and lines that the engine takes after a run.
 use crate::case::try_cases;
 use std::test::Fail;
 
@@ -6,7 +6,7 @@ const TAKES: &str = "# a file that takes itself is taken four times
 file L.CMD|INF VER~TAKE L.CMD~
 take L.CMD|4096|Stopped(TakeDepth)| EXEC20 1~ EXEC20 1~ EXEC20 1~ EXEC20 1~?TAKE too deep~
 
-# behind the end of a file the one around it goes on
+# after the end of a file the one around it goes on
 file A.CMD|TAKE B.CMD~LOGOUT~
 file B.CMD|INF VER~
 take B.CMD|4096|Ok| EXEC20 1~
@@ -31,7 +31,7 @@ file L.CMD|INF VER~LOGOUT~INF VER~
 take L.CMD|4096|Logout| EXEC20 1~Logged out~
 take L.CMD|4096|none|
 
-# the screen fails in the reply of the second line: the lines before have acted, and those behind are not taken
+# the screen fails in the reply of the second line: the lines before have acted, and those after are not taken
 file A.CMD|BUILD <X>~INF VER~INF VER~BUILD <Y>~
 file B.CMD|INF VER~
 file X.CMD|CONNECT <X>~
@@ -51,6 +51,7 @@ take X.CMD|4096|Ok|
 file A.CMD|INF -~VER~
 take A.CMD|4096|Ok| EXEC20 1~";
 
+// [take]
 #[test]
 fn takes_files(rt: HostRuntime) -> Result<(), Fail> {
     try_cases(&rt, TAKES)
@@ -68,6 +69,6 @@ lines|4096|Ok(())|
 take A.CMD|4096|Ok| EXEC20 1~";
 
 #[test]
-fn goes_on_behind_a_cut(rt: HostRuntime) -> Result<(), Fail> {
+fn goes_on_after_a_cut(rt: HostRuntime) -> Result<(), Fail> {
     try_cases(&rt, GOES_ON)
 }

@@ -61,7 +61,7 @@ fn run<H: Host, K: Source, S: Sink, W: Sink, C: Clock, L: Ledger>(
     )
 }
 
-// The words behind the program's name. They are too many where the system cannot tell them.
+// The words after the program's name. They are too many where the system cannot tell them.
 fn given_words(rt: &(impl Env + Alloc)) -> Words {
     let Ok(args) = env::args(rt) else {
         return Words::untold();

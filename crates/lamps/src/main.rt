@@ -5,9 +5,9 @@ ghost use Rattle.std.specs.Prelude.{◌≡◌, ◌<◌};
 
 use cm_blocks::Steps;
 use cm_io::{Sink, Source, StdSink, StdSource};
-use cm_run::Stop;
+use cm_run::{Stop, status_of};
+use eg_lamps::Program;
 use eg_lamps::grammar::grammar;
-use eg_lamps::{Program, status_of};
 use std::marker::Brand;
 use std::process::ExitCode;
 use std::sync::ledger::{Blank, Ledger};
@@ -17,14 +17,14 @@ fn main(rt: HostRuntime) -> ExitCode {
     let mut program = Program::new();
     let mut keys = StdSource::new(&rt);
     let mut screen = StdSink::new(&rt);
-    let went = run::<StdSource, StdSink, Brand>(
+    let outcome = run::<StdSource, StdSink, Brand>(
         &rt,
         Blank::new(1),
         &mut program,
         &mut keys,
         &mut screen,
     );
-    ExitCode::from(status_of(went))
+    ExitCode::from(status_of(outcome))
 }
 
 // Makes the grammar, and the counter of trials for this ledger, and runs the program.

@@ -4,7 +4,7 @@ use Rattle.std.specs.Char.{is_ascii_lowercase}
 use Rattle.std.proofs.lemmas.Bool.{and_from}
 use Rattle.std.proofs.lemmas.Bool.Decides.{nat_tests}
 use Rattle.cm_text.specs.Bytes.{is_name, is_word}
-use Rattle.cm_text.specs.Shown.{end_of_line}
+use Rattle.cm_text.specs.ScreenBytes.{end_of_line}
 use Rattle.cm_io.specs.declared.sink.Sink.{Ghosts}
 use Rattle.cm_io.specs.declared.writer.Writer.{Writer}
 use Rattle.cm_io.specs.Writer.{Writes}

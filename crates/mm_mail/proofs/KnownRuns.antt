@@ -15,7 +15,7 @@ use Rattle.ex_run.specs.Scene.{Scene, Telling}
 use Rattle.mm_mail.specs.Form.{form_by, form_of}
 use Rattle.mm_mail.specs.MailRun.{Stands, mail_left, mail_trace, run_shown}
 use Rattle.mm_mail.specs.MailState.{MailState}
-use Rattle.mm_mail.specs.Meaning.{mail_over, mode_by}
+use Rattle.mm_mail.specs.Semantics.{mail_over, mode_by}
 use Rattle.mm_mail.specs.declared.message.Message.{Message}
 
 -- mail has ended the run where QUIT has acted
@@ -53,7 +53,7 @@ pub no_usage : (asked : Option Form) (form : Form) (result : Status) → Some fo
 no_usage asked form result is other = (λ same. absurd (other same), λ none. let wrong : Some form ≡ None = is ∙ none in absurd (cc))
 
 -- what stands, by what the words ask for
-pub stands_asked : (told : Telling) (asked : Option Form) (form : Form) (a b : Scene) (before now : Disk) (result : Status)
-    → Some form ≡ asked → StandsBy told mail_over form a b before now result → Stands told asked a b before now result
-stands_asked told asked form a b before now result is stands =
-    subst (λ (it : Option Form). Stands told it a b before now result) is stands
+pub stands_asked : (known : Telling) (asked : Option Form) (form : Form) (a b : Scene) (before now : Disk) (result : Status)
+    → Some form ≡ asked → StandsBy known mail_over form a b before now result → Stands known asked a b before now result
+stands_asked known asked form a b before now result is stands =
+    subst (λ (it : Option Form). Stands known it a b before now result) is stands

@@ -13,7 +13,7 @@ use Rattle.cm_fields.specs.declared.value.Value.{Value}
 use Rattle.cm_fields.specs.declared.value.Value.TheVariants as values
 use Rattle.cm_files.specs.declared.flags.Flags.{Flags}
 use Rattle.cm_files.specs.Catalogue.{Catalogue}
-use Rattle.cm_files.specs.Fields.{has_colon_behind, is_plain_path, user_of}
+use Rattle.cm_files.specs.Fields.{has_colon_after, is_plain_path, user_of}
 use Rattle.cm_hooks.specs.declared.answer.Answer.{Answer}
 use Rattle.cm_hooks.specs.declared.answer.Answer.TheVariants.{No, NoBecause, Yes}
 use Rattle.cm_hooks.specs.Field.{hook_of, judged}
@@ -31,7 +31,7 @@ use Rattle.cm_blocks.proofs.Places.{run_of, user_says}
 use Rattle.cm_state.specs.Roles.{field_of}
 use Rattle.cm_state.specs.SessionState.{SessionState, text_of}
 use Rattle.cm_state.proofs.Branches.{Begins, Branch, IsBranch, IsOf}
-use Rattle.cm_state.proofs.Ways.{behind_verb}
+use Rattle.cm_state.proofs.Ways.{after_verb}
 use Rattle.ex_commands.specs.Line.{keyword_code}
 use Rattle.ex_commands.proofs.Resolutions.{state_has, user_within}
 use Rattle.ex_store.specs.State.{State, catalogue_of}
@@ -59,7 +59,7 @@ begins = record {
   one_verb = refl;
 }
 
--- behind DELETE and READ the value is read by the hook, and behind SEND a user is read
+-- after DELETE and READ the value is read by the hook, and after SEND a user is read
 abbrev reads_number : Function → Bool
 reads_number (functions.Hook rule) = true
 reads_number function = false
@@ -140,8 +140,8 @@ user_value : (c : Catalogue) (function : Function) (flags : Flags) (rest : List 
     → IsUser c value
 unfolding trial
 user_value c functions.User flags rest at value looked end reads is =
-    let run = run_of is_plain_path (user_of c (has_colon_behind rest)) rest at value looked end is in
-    let it = user_says c (has_colon_behind rest) (take (prefix_len is_plain_path rest) rest) value run.decided in
+    let run = run_of is_plain_path (user_of c (has_colon_after rest)) rest at value looked end is in
+    let it = user_says c (has_colon_after rest) (take (prefix_len is_plain_path rest) rest) value run.decided in
     subst (IsUser c) (sym it.2) (user_within c (take (prefix_len is_plain_path rest) rest) it.0 it.1)
 user_value c function flags rest at value looked end reads is = cc
 
@@ -151,23 +151,23 @@ module _ (state : State) (session : SessionState)
   abbrev s : Setting
   s = setting mail_graph (catalogue_of state) mail_meanings
 
-  behind : (branch : Branch) → IsBranch mail_graph 0 branch → (verb field : FieldView) → field_of roles.Verb session.fields ≡ Some verb
+  after : (branch : Branch) → IsBranch mail_graph 0 branch → (verb field : FieldView) → field_of roles.Verb session.fields ≡ Some verb
       → branch.names (keyword_code verb.value) ≡ true → field_of branch.role session.fields ≡ Some field
       → IsOf s (text_of session) branch.reads field
-  behind branch is verb field =
-      behind_verb s COMMANDS 0 begins keyword_code (λ place number. refl) (text_of session) branch is session.fields ending.Done verb field parse
+  after branch is verb field =
+      after_verb s COMMANDS 0 begins keyword_code (λ place number. refl) (text_of session) branch is session.fields ending.Done verb field parse
 
   few : (verb field : FieldView) → field_of roles.Verb session.fields ≡ Some verb → number_branch.names (keyword_code verb.value) ≡ true
       → field_of roles.Value session.fields ≡ Some field → IsFew field.value
   few verb field verb_is names is =
-      let of = behind number_branch number_is verb field verb_is names is in
+      let of = after number_branch number_is verb field verb_is names is in
       number_value (catalogue_of state) of.tried.block.function of.tried.block.flags (drop of.tried.at of.tried.said) of.tried.at field.value
       of.tried.looked of.tried.end of.read of.tried.accepts
 
   user : (verb field : FieldView) → field_of roles.Verb session.fields ≡ Some verb → user_branch.names (keyword_code verb.value) ≡ true
       → field_of roles.Files session.fields ≡ Some field → IsUser (catalogue_of state) field.value
   user verb field verb_is names is =
-      let of = behind user_branch user_is verb field verb_is names is in
+      let of = after user_branch user_is verb field verb_is names is in
       user_value (catalogue_of state) of.tried.block.function of.tried.block.flags (drop of.tried.at of.tried.said) of.tried.at field.value
       of.tried.looked of.tried.end of.read of.tried.accepts
 

@@ -19,7 +19,7 @@ use Rattle.ex_store.specs.declared.directory.Directory.{Directory}
 use Rattle.ex_store.specs.declared.place.Place.{Place}
 use Rattle.ex_store.specs.declared.row.Row.{Row}
 use Rattle.ex_store.specs.declared.row.RowView.{RowView}
-use Rattle.ex_store.specs.Lent.{row_of_view}
+use Rattle.ex_store.specs.Views.{row_of_view}
 use Rattle.ex_store.specs.Rows.{is_in, with_mark}
 use Rattle.ex_store.specs.Selection.{is_selected_by, rows_with_remark, selected}
 use Rattle.ex_store.specs.State.{State}

@@ -38,11 +38,11 @@ pub is_tested : (name front digits : List ℕ) (starts are : Bool) → front ≡
     → starts ≡ starts_with nat_eq name front → starts ≡ true → length digits ≡ 4 → are ≡ list_all is_ascii_digit digits
     → are ≡ is_message_name name
 unfolding prefix
-is_tested name front digits starts are is behind told passes four all =
+is_tested name front digits starts are is after told passes four all =
     let same : bytes_eq prefix (take 4 name) ≡ true = subst (λ (text : List ℕ). starts_with nat_eq name text ≡ true) is (sym told ∙ passes) in
     let here : bytes_eq (take 4 name) prefix ≡ true = ap (λ (text : List ℕ). bytes_eq text prefix) (sym (bytes_eq-true prefix (take 4 name) same)) in
-    let long : (length (digits_of name) == 4) ≡ true = eq-eqb _ 4 (ap length (sym behind) ∙ four) in
-    all ∙ ap (list_all is_ascii_digit) behind
+    let long : (length (digits_of name) == 4) ≡ true = eq-eqb _ 4 (ap length (sym after) ∙ four) in
+    all ∙ ap (list_all is_ascii_digit) after
     ∙ ap (λ (first : Bool). first && list_all is_ascii_digit (digits_of name)) (sym (and_from _ _ here long))
 
 -- its number has at most four digits
@@ -54,8 +54,8 @@ number_few name is =
 -- so it is told
 pub is_told : (name digits : List ℕ) (told : Option ℕ) → is_message_name name ≡ true → digits ≡ digits_of name
     → told ≡ (if nat_le (digits_value 10 digits) MOST_MESSAGES then Some (digits_value 10 digits) else None) → told ≡ None → 0 ≡ name_number name
-is_told name digits told is behind tells none =
-    let few : digits_value 10 digits ≤ MOST_MESSAGES = subst (λ (each : List ℕ). digits_value 10 each ≤ MOST_MESSAGES) (sym behind) (number_few name is) in
+is_told name digits told is after tells none =
+    let few : digits_value 10 digits ≤ MOST_MESSAGES = subst (λ (each : List ℕ). digits_value 10 each ≤ MOST_MESSAGES) (sym after) (number_few name is) in
     let some : told ≡ Some (digits_value 10 digits) =
     tells ∙ ap (λ (low : Bool). cond low (Some (digits_value 10 digits)) None) (le-leb (digits_value 10 digits) MOST_MESSAGES few) in
     cc

@@ -1,4 +1,4 @@
--- A message that is sent is one of its receiver's, the only one with its number.
+-- [message] A message that is sent is one of its receiver's, the only one with its number.
 use Rattle.std.proofs.Common.{◌≡◌, ℕ, ◌≤◌, ◌==◌, ◌&&◌, nat_le, nat_lt, not, Bool, true, false, cond, filter, List, [], ◌∷◌, ◌++◌, length, Result, Ok, Err, refl, ap, sym, subst, ◌∙◌, arith}
 use Rattle.std.specs.List.{list_all}
 use Rattle.std.specs.Ordering.{is_eq, is_lt}
@@ -102,22 +102,22 @@ number_own : (receiver : List ℕ) (number : ℕ) (row : Row) → number ≤ MOS
 number_own receiver number row few own = ap (λ (key : Key). name_number key.name) own ∙ number_of_name number few
 
 -- no file has its key yet, and no message its number
-not_of : (message : Message) (state : State) → number_for message state ≤ MOST_MESSAGES → (before behind : List Row) (row : Row)
-    → before ++ row ∷ behind ≡ state.rows → is_of (message_key message.receiver (number_for message state)) row ≡ false
-not_of message state few before behind row among =
+not_of : (message : Message) (state : State) → number_for message state ≤ MOST_MESSAGES → (before after : List Row) (row : Row)
+    → before ++ row ∷ after ≡ state.rows → is_of (message_key message.receiver (number_for message state)) row ≡ false
+not_of message state few before after row among =
     by (is_of (message_key message.receiver (number_for message state)) row) refl
   where
     by : (b : Bool) → is_of (message_key message.receiver (number_for message state)) row ≡ b → b ≡ false
     by true is =
         let own = key_is row.key (message_key message.receiver (number_for message state)) is in
         let same = number_own message.receiver (number_for message state) row few own in
-        let less = own_number message state before behind row among (numbered_own message.receiver (number_for message state) row own) in
+        let less = own_number message state before after row among (numbered_own message.receiver (number_for message state) row own) in
         absurd (omega (arith, same, less))
     by false is = refl
 
-not_numbered : (message : Message) (state : State) (before behind : List Row) (row : Row) → before ++ row ∷ behind ≡ state.rows
+not_numbered : (message : Message) (state : State) (before after : List Row) (row : Row) → before ++ row ∷ after ≡ state.rows
     → is_message_numbered message.receiver (number_for message state) row ≡ false
-not_numbered message state before behind row among =
+not_numbered message state before after row among =
     by (is_message_numbered message.receiver (number_for message state) row) refl
   where
     by : (b : Bool) → is_message_numbered message.receiver (number_for message state) row ≡ b → b ≡ false
@@ -126,7 +126,7 @@ not_numbered message state before behind row among =
         let unmarked = and_parts _ _ last.0 in
         let first = and_parts (is_numbered_in message.receiver row) _ unmarked.0 in
         let same = eqb-true (name_number row.key.name) (number_for message state) last.1 in
-        let less = own_number message state before behind row among first.0 in
+        let less = own_number message state before after row among first.0 in
         absurd (omega (arith, same, less))
     by false is = refl
 

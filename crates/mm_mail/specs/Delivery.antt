@@ -1,6 +1,6 @@
 -- A message is sent.
 use Rattle.std.specs.Prelude.{ℕ, ◌≡◌, ◌+◌, nat_lt, if◌then◌else◌, List, [], ◌∷◌, ◌++◌, codes}
-use Rattle.cm_text.specs.Shown.{end_of_line}
+use Rattle.cm_text.specs.ScreenBytes.{end_of_line}
 use Rattle.cm_fields.specs.declared.code.Code.TheVariants.{MailFull}
 use Rattle.cm_fields.specs.declared.value.Gen.TheVariants.{Next}
 use Rattle.ex_store.specs.declared.key.NamePair.{NamePair}
@@ -30,7 +30,7 @@ sent_to = codes " Sent to "
 unfoldable pub sent_line : List ℕ → ℕ → List ℕ
 sent_line receiver number = sent_to ++ receiver ++ space ++ four_digits number ++ end_of_line
 
--- it has the number behind the greatest, and is a new file of its receiver's; past the last number it is refused
+-- it has the number after the greatest, and is a new file of its receiver's; past the last number it is refused
 abbrev pub number_for : Message → State → ℕ
 number_for message state = greatest message.receiver state + 1
 
@@ -40,6 +40,7 @@ sends_as number message state =
     (planned (plans.Write (message_place message.receiver number Next)
     (message_bytes state.connected message.subject message.typed)) message.moment state) state
 
+-- [message]
 unfoldable pub sends : Message → State → Act
 sends message state =
     let number = number_for message state in

@@ -33,7 +33,7 @@ unfoldable pub mail_nodes : List Node
 mail_nodes =
     node (confirm ∷ block (Key 0) roles.Verb LINE_END ∷ []) ∷ map (λ (it : Block). node (it ∷ [])) blocks
 
--- the commands, each with the node behind it
+-- the commands, each with the node after it
 unfoldable pub command_entries : List Entry
 command_entries =
     entry (codes "DELETE") DELETE MESSAGE

@@ -8,6 +8,6 @@ pub mod MailRules
 pub mod MailRun
 pub mod MailState
 pub mod Mailbox
-pub mod Meaning
 pub mod MessageName
+pub mod Semantics
 pub mod TakesMemory

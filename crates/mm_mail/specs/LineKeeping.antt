@@ -1,6 +1,6 @@
 -- What mail shows ends its line wherever a line begins.
 use Rattle.std.proofs.Common.{◌≡◌, ◌≢◌, ℕ, Bool, true, false, cond, List, [], ◌∷◌, ◌++◌, map, nat_lt, Option, None, Some, Result, Ok, Err, inl, inr, refl}
-use Rattle.cm_text.specs.Shown.{end_of_line, printing_byte}
+use Rattle.cm_text.specs.ScreenBytes.{end_of_line, printing_byte}
 use Rattle.cm_fields.specs.declared.code.Code.{Code}
 use Rattle.cm_fields.specs.declared.code.Code.TheVariants.{MailFull, NoMessage}
 use Rattle.cm_state.specs.Echo.{refusal}
@@ -9,7 +9,7 @@ use Rattle.cm_run.specs.Keeping.{HasPrintedPrompt, IsLineKeeping, is_line}
 use Rattle.cm_run.specs.Obey.{left_by, replies}
 use Rattle.cm_run.specs.Shows.{EndsLine, IsEnded}
 use Rattle.cm_run.proofs.Echoes.{prompts_printed}
-use Rattle.cm_run.proofs.LineEnds.{ended_behind, ended_then, ends_deed, ends_each, eol_ends}
+use Rattle.cm_run.proofs.LineEnds.{ended_after, ended_then, ends_each, ends_effect, eol_ends}
 use Rattle.ex_store.specs.Plan.{Planned}
 use Rattle.ex_store.specs.State.{State}
 use Rattle.ex_store.specs.declared.key.NamePair.{NamePair}
@@ -17,7 +17,7 @@ use Rattle.ex_store.specs.declared.row.Row.{Row}
 use Rattle.ex_commands.specs.Act.{Act, plays_by, refuses}
 use Rattle.ex_commands.specs.Replies.{day_of, held_text}
 use Rattle.ex_commands.specs.Texts.{space}
-use Rattle.ex_commands.specs.Typed.{bytes_behind, echo_of, echo_text, turn_of}
+use Rattle.ex_commands.specs.FileTyping.{bytes_after, echo_of, echo_text, turn_of}
 use Rattle.ex_commands.specs.declared.data.DataTurn.{DataTurn}
 use Rattle.ex_commands.specs.declared.data.DataTurn.TheVariants as turns
 use Rattle.ex_commands.proofs.LineEnds.{Ended, Ends, held_ends, refusal_ends}
@@ -25,7 +25,7 @@ use Rattle.ex_commands.proofs.TypedEnds.{last_key_ends}
 use Rattle.mm_mail.specs.Delivery.{number_for, sends, sends_as, sent_line, sent_to}
 use Rattle.mm_mail.specs.Mailbox.{deleted, deleted_line, deletes, deletes_first, first_line, header_line, mailbox, messages_numbered, reads, reads_first}
 use Rattle.mm_mail.specs.MailState.{MailState}
-use Rattle.mm_mail.specs.Meaning.{act_of, deed_of, echo_by, mail_meaning, mode_by, mode_of, raw_by, sent, typed_deeds}
+use Rattle.mm_mail.specs.Semantics.{act_of, echo_by, effect_of, mail_semantics, mode_by, mode_of, raw_by, sent, typed_effects}
 use Rattle.mm_mail.specs.MessageName.{digits_of, four_digits}
 use Rattle.mm_mail.specs.declared.command.Command.{Command}
 use Rattle.mm_mail.specs.declared.command.Command.TheVariants as commands
@@ -52,7 +52,7 @@ refusal_ended code = inr (as_ended (refusal code) (refusal_ends code))
 header_ends : (row : Row) → EndsLine (header_line row)
 unfolding header_line
 header_ends row =
-    inr (ended_behind (space ++ digits_of row.key.name ++ space ++ day_of row.file.moment ++ space
+    inr (ended_after (space ++ digits_of row.key.name ++ space ++ day_of row.file.moment ++ space
     ++ map printing_byte (first_line row.file.bytes)) end_of_line eol_ends)
 
 reads_end : (rows : List Row) (state : State) → EndsLine (reads_first rows state).reply
@@ -62,7 +62,7 @@ reads_end (row ∷ more) state = as_ends (held_text row) (held_ends row)
 deletes_end : (number : ℕ) (rows : List Row) (state : State) → EndsLine (deletes_first number rows state).reply
 unfolding deleted_line
 deletes_end number [] state = refusal_ended NoMessage
-deletes_end number (row ∷ more) state = inr (ended_behind (deleted ++ four_digits number) end_of_line eol_ends)
+deletes_end number (row ∷ more) state = inr (ended_after (deleted ++ four_digits number) end_of_line eol_ends)
 
 act_ends : (command : Command) (state : State) → EndsLine (act_of command state).reply
 unfolding act_of reads deletes
@@ -78,7 +78,7 @@ act_ends (commands.Send receiver subject) state = inl refl
 sent_ends : (receiver : List ℕ) (number : ℕ) → EndsLine (sent_line receiver number)
 unfolding sent_line
 sent_ends receiver number =
-    inr (ended_behind (sent_to ++ receiver ++ space ++ four_digits number) end_of_line eol_ends)
+    inr (ended_after (sent_to ++ receiver ++ space ++ four_digits number) end_of_line eol_ends)
 
 plays_end : (receiver : List ℕ) (number : ℕ) (made : Result Planned Code) (state : State)
     → EndsLine (plays_by (λ (pairs : List NamePair). sent_line receiver number) made state).reply
@@ -105,14 +105,14 @@ no_line false message is = cc
 -- a key with which the typing ends shows the end of a line, and the reply of the message ends its own
 by_turn : (mail : MailState) (message : Message) (shown : List ℕ) (turn : DataTurn)
     → (turn ≢ turns.More → IsEnded shown)
-    → is_line (mode_of (left_by mail (typed_deeds mail message turn))) ≡ true
-    → IsEnded (shown ++ replies (typed_deeds mail message turn))
-unfolding typed_deeds
+    → is_line (mode_of (left_by mail (typed_effects mail message turn))) ≡ true
+    → IsEnded (shown ++ replies (typed_effects mail message turn))
+unfolding typed_effects
 by_turn mail message shown turns.More ends line = absurd (no_line mail.ended message line)
 by_turn mail message shown turns.Write ends line =
     let at = record mail { writing = None } in
     ended_then shown (replies (sent at message ∷ [])) (ends (λ is. cc))
-    (ends_deed (sent at message) (sends_end message at.state))
+    (ends_effect (sent at message) (sends_end message at.state))
 by_turn mail message shown turns.Dropped ends line = ended_then shown [] (ends (λ is. cc)) (inl refl)
 
 raw_ends : (mail : MailState) (key : ℕ) (ended : Bool) (writing : Option Message) → mode_by ended writing ≡ mode.Raw
@@ -121,14 +121,14 @@ raw_ends : (mail : MailState) (key : ℕ) (ended : Bool) (writing : Option Messa
 raw_ends mail key true writing is line = absurd (cc)
 raw_ends mail key false None is line = absurd (cc)
 raw_ends mail key false (Some message) is line =
-    by_turn mail (record message { typed = bytes_behind message.typed key }) (echo_text (echo_of message.typed key))
+    by_turn mail (record message { typed = bytes_after message.typed key }) (echo_text (echo_of message.typed key))
     (turn_of (echo_of message.typed key)) (λ ends. as_ended _ (last_key_ends message.typed key ends)) line
 
-pub mail_keeps_lines : IsLineKeeping mail_meaning
+pub mail_keeps_lines : IsLineKeeping mail_semantics
 mail_keeps_lines = record {
   prompts = λ mail. prompt_printed mail.ended mail.writing;
   lines = λ mail session moment.
-      ends_deed (deed_of mail moment _) (act_ends _ mail.state);
+      ends_effect (effect_of mail moment _) (act_ends _ mail.state);
   file_lines = λ mail session moment. inl refl;
   raw_keys = λ mail key is line. raw_ends mail key mail.ended mail.writing is line;
 }

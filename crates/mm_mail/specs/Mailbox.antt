@@ -2,7 +2,7 @@
 use Rattle.std.specs.Prelude.{ℕ, ◌==◌, ◌&&◌, max, not, Bool, true, if◌then◌else◌, List, [], ◌∷◌, ◌++◌, codes, filter, map, take, Some}
 use Rattle.std.specs.List.{flat_map, take_while}
 use Rattle.std.specs.Str.{bytes_eq}
-use Rattle.cm_text.specs.Shown.{end_of_line, printing_byte}
+use Rattle.cm_text.specs.ScreenBytes.{end_of_line, printing_byte}
 use Rattle.cm_fields.specs.declared.code.Code.TheVariants.{NoMessage}
 use Rattle.cm_fields.specs.declared.value.Gen.{Gen}
 use Rattle.cm_blocks.specs.Words.{no_flags}

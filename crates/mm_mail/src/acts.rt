@@ -1,14 +1,14 @@
 // What commands do to a store.
-// A command is a definition over the state (Meaning), and act is one match of calls that each ensure one clause of it.
+// A command is a definition over the state (Semantics); act is one match of calls that each ensure one clause of it.
 // That reading changes nothing is a lemma, so an edit meets the clause and no answer.
 #![tactic(auto, using(cm_io::proofs::Texts::each))]
 
 ghost use Rattle.std.specs.Prelude.{◌≡◌, ◌≤◌};
 ghost use Rattle.cm_io.specs.Fault.{PutCause};
-ghost use Rattle.cm_io.specs.Told.{Adds};
+ghost use Rattle.cm_io.specs.Contents.{Adds};
 ghost use Rattle.cm_io.specs.Writer.{Writes};
 ghost use Rattle.mm_mail.specs.Command.{MayAct};
-ghost use Rattle.mm_mail.specs.Meaning.{act_of};
+ghost use Rattle.mm_mail.specs.Semantics.{act_of};
 
 use crate::command::Command;
 use crate::mailbox::{delete, put_headers, put_message};
@@ -16,7 +16,7 @@ use cm_io::{Put, Sink, Writer};
 use ex_store::Store;
 
 // Does a command, and writes its reply.
-#[tactic(auto, using(cm_io::proofs::Texts::each, cm_io::proofs::Texts::writes_none, crate::proofs::Deliveries::reads_stays), unfolding(crate::specs::Meaning::act_of))]
+#[tactic(auto, using(cm_io::proofs::Texts::each, cm_io::proofs::Texts::writes_none, crate::proofs::Deliveries::reads_stays), unfolding(crate::specs::Semantics::act_of))]
 fn do_command<S: Sink>(store: &mut Store, command: &Command, out: &mut Writer<'_, S>)
     requires { MayAct command.now store.old.state }
     ensures written { Writes S.Sink out.old out.new (act_of command.now store.old.state).reply }
@@ -35,12 +35,13 @@ fn do_command<S: Sink>(store: &mut Store, command: &Command, out: &mut Writer<'_
 /// Does what a command does to a store, and shows its reply. It acts also where the screen fails.
 pub(crate) fn act<S: Sink>(store: &mut Store, command: &Command, screen: &mut S) -> Put
     requires { MayAct command.now store.old.state }
-    ensures reply { Adds (S.told screen.old) (S.told screen.new) (act_of command.now store.old.state).reply result }
+    ensures reply { Adds (S.contents screen.old) (S.contents screen.new)
+        (act_of command.now store.old.state).reply result }
     ensures state { store.new.state ≡ (act_of command.now store.old.state).state }
     ensures later { S.faults screen.old ≤ S.faults screen.new }
     ensures cause { PutCause (S.faults screen.old) (S.faults screen.new) result }
 {
     let mut out = Writer::new(screen);
     do_command(store, command, &mut out);
-    out.went()
+    out.outcome()
 }

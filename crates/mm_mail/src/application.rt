@@ -9,13 +9,13 @@ use cm_state::Session;
 use ex_store::Store;
 
 impl Application for Mail {
-    ghost use Rattle.mm_mail.specs.Meaning.{mail_meaning};
+    ghost use Rattle.mm_mail.specs.Semantics.{mail_semantics};
 
     type Rules = MailRules;
 
     type Names = Store;
 
-    ghost means = { mail_meaning };
+    ghost means = { mail_semantics };
 
     fn names(&self) -> &Store {
         self.store()

@@ -3,7 +3,7 @@
 
 ghost use Rattle.std.specs.Prelude.{◌≡◌, ◌≤◌, true, IfOk, OnErr, OnOk};
 ghost use Rattle.cm_io.specs.Fault.{PutCause};
-ghost use Rattle.cm_io.specs.Told.{Adds};
+ghost use Rattle.cm_io.specs.Contents.{Adds};
 ghost use Rattle.cm_io.specs.Writer.{Writes};
 ghost use Rattle.ex_store.specs.State.{has_directory};
 ghost use Rattle.mm_mail.specs.Delivery.{message_bytes, sends, sends_as, sent_line};
@@ -20,7 +20,7 @@ use ex_store::{Plan, Refusal, Store};
 use std::alloc::Global;
 
 // What the file of a message holds.
-#[tactic(auto, unfolding(crate::specs::Delivery::message_bytes, crate::specs::Delivery::sender_end, cm_text::specs::Shown::end_of_line))]
+#[tactic(auto, unfolding(crate::specs::Delivery::message_bytes, crate::specs::Delivery::sender_end, cm_text::specs::ScreenBytes::end_of_line))]
 fn message_bytes(alloc: Global, store: &Store, message: &Message) -> Result<Vec<u8>, NoMemory>
     ensures { IfOk result (λ bytes. bytes.items
         ≡ message_bytes store.now.state.connected message.now.subject message.now.typed) }
@@ -101,7 +101,7 @@ fn deliver<S: Sink>(
     deliver_as(alloc, store, number, message, out)
 }
 
-/// Sends a message: makes a file of its receiver's, whose number is the one behind the greatest, and shows ` Sent to
+/// Sends a message: makes a file of its receiver's, whose number is the one after the greatest, and shows ` Sent to
 /// USER NNNN`. Where that number is above 9999, or the store refuses the file, why is shown, and nothing changes.
 ///
 /// With NoMemory nothing is shown or changed. Failed says that the screen failed: a part of what is to be shown is
@@ -114,15 +114,15 @@ pub(crate) fn send<S: Sink>(
 ) -> Result<Put, NoMemory>
     requires there { has_directory message.now.receiver store.old.state.directories ≡ true }
     ensures reply { IfOk result (λ put.
-        Adds (S.told screen.old) (S.told screen.new) (sends message.now store.old.state).reply put) }
+        Adds (S.contents screen.old) (S.contents screen.new) (sends message.now store.old.state).reply put) }
     ensures state { OnOk result (store.new.state ≡ (sends message.now store.old.state).state) }
     ensures cause { IfOk result (λ put. PutCause (S.faults screen.old) (S.faults screen.new) put) }
-    ensures unshown { OnErr result (S.told screen.new ≡ S.told screen.old) }
+    ensures unshown { OnErr result (S.contents screen.new ≡ S.contents screen.old) }
     ensures quiet { OnErr result (S.faults screen.new ≡ S.faults screen.old) }
     ensures same { OnErr result (store.new.state ≡ store.old.state) }
     ensures later { S.faults screen.old ≤ S.faults screen.new }
 {
     let mut out = Writer::new(screen);
     deliver(alloc, store, message, &mut out)?;
-    Ok(out.went())
+    Ok(out.outcome())
 }

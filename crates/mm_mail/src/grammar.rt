@@ -20,7 +20,7 @@ pub(crate) const READ: u16 = 4;
 
 pub(crate) const SEND: u16 = 5;
 
-// The node where a line begins, those behind the commands that want a message and a receiver, and that where it ends.
+// The node where a line begins, those after the commands that want a message and a receiver, and that where it ends.
 pub(crate) const COMMANDS: u16 = 0;
 
 const MESSAGE: u16 = 1;
@@ -39,7 +39,7 @@ pub fn mail_grammar(alloc: Global) -> Result<Grammar, NoMemory>
     Ok(Grammar::of(nodes(alloc)?, tables))
 }
 
-// The commands, each with the node behind it.
+// The commands, each with the node after it.
 #[tactic(auto, unfolding(crate::specs::Graph::command_entries, cm_tables::specs::Order::table_fault))]
 fn commands(alloc: Global) -> Result<Table, NoMemory>
     ensures { IfOk result (λ table. table ≡ command_entries) }

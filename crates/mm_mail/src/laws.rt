@@ -7,12 +7,12 @@ ghost use Rattle.cm_blocks.specs.Setting.{setting};
 ghost use Rattle.cm_blocks.specs.declared.field.Ending.TheVariants as ending;
 ghost use Rattle.cm_fields.specs.declared.code.Code.{Code};
 ghost use Rattle.cm_state.specs.Edit.{edited};
-ghost use Rattle.cm_state.specs.SessionState.{SessionState, met_line, text_of};
+ghost use Rattle.cm_state.specs.SessionState.{SessionState, line_before, text_of};
 ghost use Rattle.cm_state.specs.declared.turn.Turn.TheVariants as turn;
 ghost use Rattle.cm_run.specs.Event.{Event, Memory, keys_of};
 ghost use Rattle.cm_run.specs.Idle.{turn_at};
 ghost use Rattle.cm_run.specs.Keeping.{IsLineKeeping, is_line};
-ghost use Rattle.cm_run.specs.Meaning.{setting_of};
+ghost use Rattle.cm_run.specs.Semantics.{setting_of};
 ghost use Rattle.cm_run.specs.Trace.{RunState, step};
 ghost use Rattle.ex_store.specs.State.{State, catalogue_of};
 ghost use Rattle.ex_store.specs.declared.row.Row.{Row};
@@ -24,7 +24,7 @@ ghost use Rattle.mm_mail.specs.Mailbox.{is_numbered_in};
 ghost use Rattle.mm_mail.specs.MailRules.{mail_meanings};
 ghost use Rattle.mm_mail.specs.MailRun.{mail_trace};
 ghost use Rattle.mm_mail.specs.MailState.{MailState};
-ghost use Rattle.mm_mail.specs.Meaning.{act_of, mail_meaning};
+ghost use Rattle.mm_mail.specs.Semantics.{act_of, mail_semantics};
 ghost use Rattle.mm_mail.specs.MessageName.{name_number};
 ghost use Rattle.mm_mail.specs.TakesMemory.{LastTakesMemory};
 ghost use Rattle.mm_mail.specs.declared.command.Command.{Command};
@@ -44,20 +44,21 @@ pub fn a_line_may_act()
 
 /// Mail leaves the screen at the start of a row wherever a line begins.
 pub fn mail_keeps_its_lines()
-    ensures { IsLineKeeping mail_meaning }
+    ensures { IsLineKeeping mail_semantics }
 {}
 
 /// Only two keys change directories and files: the End key that confirms a line, and control-Z, 26, which sends a
 /// message that is typed in. So a line that is refused or given up changes nothing, and SEND nothing before control-Z.
 pub fn only_confirmation_and_control_z_change_files()
-    ensures line { (at : RunState MailState) → (key : ℕ) → is_line (mail_meaning.mode_of at.state) ≡ true
-        → turn_at mail_meaning at key ≢ turn.Confirmed → (step mail_meaning at key).state ≡ at.state }
-    ensures confirmed { (at : RunState MailState) → (key : ℕ) → turn_at mail_meaning at key ≡ turn.Confirmed
-        → class_at (met_line at.session) key ≡ classes.End }
+    ensures line { (at : RunState MailState) → (key : ℕ) → is_line (mail_semantics.mode_of at.state) ≡ true
+        → turn_at mail_semantics at key ≢ turn.Confirmed → (step mail_semantics at key).state ≡ at.state }
+    ensures confirmed { (at : RunState MailState) → (key : ℕ) → turn_at mail_semantics at key ≡ turn.Confirmed
+        → class_at (line_before at.session) key ≡ classes.End }
     ensures send { (receiver subject : List ℕ) → (state : State)
         → (act_of (commands.Send receiver subject) state).state ≡ state }
-    ensures typing { (at : RunState MailState) → (key : ℕ) → is_line (mail_meaning.mode_of at.state) ≡ false → key ≢ 26
-        → (step mail_meaning at key).state.state ≡ at.state.state }
+    ensures typing { (at : RunState MailState) → (key : ℕ) → is_line (mail_semantics.mode_of at.state) ≡ false
+        → key ≢ 26
+        → (step mail_semantics at key).state.state ≡ at.state.state }
 {}
 
 /// A command that is refused changes nothing, nor does a message that is.
@@ -72,8 +73,8 @@ pub fn a_refusal_changes_nothing()
 /// and no file.
 pub fn only_quit_ends_the_run()
     ensures key { (at : RunState MailState) → (key : ℕ) → at.state.ended ≡ false
-        → (step mail_meaning at key).state.ended ≡ true → (turn_at mail_meaning at key ≡ turn.Confirmed)
-        × (command_of (catalogue_of at.state.state) (edited (setting_of mail_meaning at.state) at.session key)
+        → (step mail_semantics at key).state.ended ≡ true → (turn_at mail_semantics at key ≡ turn.Confirmed)
+        × (command_of (catalogue_of at.state.state) (edited (setting_of mail_semantics at.state) at.session key)
         ≡ commands.Quit) }
     ensures same { (state : State) → (act_of commands.Quit state).state ≡ state }
 {}
@@ -81,8 +82,8 @@ pub fn only_quit_ends_the_run()
 /// The number of a message that is sent is above those of all files of messages that its receiver has by then, marked
 /// as deleted or not and of any generation.
 pub fn a_message_has_a_number_of_its_own()
-    ensures { (message : Message) → (state : State) → (before behind : List Row) → (row : Row)
-        → before ++ row ∷ behind ≡ state.rows → is_numbered_in message.receiver row ≡ true
+    ensures { (message : Message) → (state : State) → (before after : List Row) → (row : Row)
+        → before ++ row ∷ after ≡ state.rows → is_numbered_in message.receiver row ≡ true
         → name_number row.key.name < number_for message state }
 {}
 
@@ -94,7 +95,7 @@ pub fn what_is_sent_is_read()
         → IsRead message state (sends message state).state }
 {}
 
-/// Past the first prompt memory is wanting at two kinds of keys alone: one that finishes a line of SEND, and control-Z,
+/// Past the first prompt memory runs out at two kinds of keys alone: one that finishes a line of SEND, and control-Z,
 /// 26, which sends its message.
 pub fn memory_is_wanting_where_a_message_is_sent()
     ensures { (start : State) → (moments keys : List ℕ) → (done rest : List (Event MailState))

@@ -6,9 +6,9 @@ ghost use Rattle.cm_blocks.specs.Parse.{IsParse};
 ghost use Rattle.cm_blocks.specs.Setting.{setting};
 ghost use Rattle.cm_blocks.specs.declared.field.Ending.TheVariants as ending;
 ghost use Rattle.cm_io.specs.Fault.{PutCause};
-ghost use Rattle.cm_io.specs.Told.{Adds};
+ghost use Rattle.cm_io.specs.Contents.{Adds};
 ghost use Rattle.cm_run.specs.Cause.{ObeyCause};
-ghost use Rattle.cm_run.specs.Meaning.{IsModeOf};
+ghost use Rattle.cm_run.specs.Semantics.{IsModeOf};
 ghost use Rattle.cm_run.specs.Obey.{Obeys, stage};
 ghost use Rattle.cm_state.specs.SessionState.{text_of};
 ghost use Rattle.ex_store.specs.State.{catalogue_of, has_directory};
@@ -16,7 +16,7 @@ ghost use Rattle.mm_mail.specs.Command.{MayAct, command_of};
 ghost use Rattle.mm_mail.specs.Graph.{mail_graph};
 ghost use Rattle.mm_mail.specs.MailRules.{mail_meanings};
 ghost use Rattle.mm_mail.specs.MailState.{mail_start};
-ghost use Rattle.mm_mail.specs.Meaning.{allocates, becomes, deed_of, echo_by, mode_of, raw_by, sent};
+ghost use Rattle.mm_mail.specs.Semantics.{allocates, becomes, echo_by, effect_of, mode_of, raw_by, sent};
 ghost use Rattle.mm_mail.specs.declared.grammar.TheConstants.{COMMANDS};
 
 use crate::acts::act;
@@ -124,7 +124,7 @@ impl Mail {
         Ok(())
     }
 
-    // Becomes what mail is behind a command.
+    // Becomes what mail is after a command.
     fn prepare(&mut self, command: &Command, moment: u64) -> Result<(), NoMemory>
         requires { MayAct command.now self.old.state }
         ensures ready { OnOk result (self.new ≡ becomes self.old moment command.now) }
@@ -151,8 +151,8 @@ impl Mail {
     ) -> Result<(), Stop>
         requires may_act { MayAct command.now self.old.state }
         requires line { self.old.writing ≡ None }
-        ensures obeys { Obeys (stage (S.told screen.old) self.old) (stage (S.told screen.new) self.new)
-            (deed_of self.old moment command.now ∷ []) result }
+        ensures obeys { Obeys (stage (S.contents screen.old) self.old) (stage (S.contents screen.new) self.new)
+            (effect_of self.old moment command.now ∷ []) result }
         ensures later { S.faults screen.old ≤ S.faults screen.new }
         ensures cause { ObeyCause (S.faults screen.old) (S.faults screen.new) result }
     {
@@ -170,7 +170,7 @@ impl Mail {
     fn send<S: Sink>(&mut self, message: &Message, screen: &mut S) -> Result<(), Stop>
         requires there { has_directory message.now.receiver self.old.state.directories ≡ true }
         requires over { self.old.writing ≡ None }
-        ensures obeys { Obeys (stage (S.told screen.old) self.old) (stage (S.told screen.new) self.new)
+        ensures obeys { Obeys (stage (S.contents screen.old) self.old) (stage (S.contents screen.new) self.new)
             (sent self.old message.now ∷ []) result }
         ensures later { S.faults screen.old ≤ S.faults screen.new }
         ensures cause { ObeyCause (S.faults screen.old) (S.faults screen.new) result }
@@ -204,7 +204,7 @@ impl Mail {
     // Shows what a key of a message that is typed in does, and does nothing yet.
     #[tactic(auto, using(cm_io::proofs::Additions::add_none))]
     pub(crate) fn echo_raw<S: Sink>(&self, key: u8, screen: &mut S) -> Put
-        ensures bytes { Adds (S.told screen.old) (S.told screen.new) (echo_by key self.now.writing) result }
+        ensures bytes { Adds (S.contents screen.old) (S.contents screen.new) (echo_by key self.now.writing) result }
         ensures later { S.faults screen.old ≤ S.faults screen.new }
         ensures cause { PutCause (S.faults screen.old) (S.faults screen.new) result }
     {
@@ -215,9 +215,10 @@ impl Mail {
     }
 
     // Takes a key of a message that is typed in.
-    #[tactic(auto, using(cm_run::proofs::Acts::obeys_nothing), unfolding(cm_run::specs::Cause::ObeyCause, crate::specs::Meaning::typed_deeds))]
+    #[tactic(auto, using(cm_run::proofs::Acts::obeys_nothing), unfolding(cm_run::specs::Cause::ObeyCause, crate::specs::Semantics::typed_effects))]
     pub(crate) fn obey_raw<S: Sink>(&mut self, key: u8, screen: &mut S) -> Result<(), Stop>
-        ensures obeys { Obeys (stage (S.told screen.old) self.old) (stage (S.told screen.new) self.new)
+        // [message]
+        ensures obeys { Obeys (stage (S.contents screen.old) self.old) (stage (S.contents screen.new) self.new)
             (raw_by self.old key self.old.writing) result }
         ensures later { S.faults screen.old ≤ S.faults screen.new }
         ensures cause { ObeyCause (S.faults screen.old) (S.faults screen.new) result }

@@ -1,6 +1,6 @@
 // The program over what is outside of it.
 ghost use Rattle.std.specs.Prelude.{◌≡◌, ◌⊎◌, ◌<◌, ◌↔◌, ◌+◌, ℕ, false, List, ◌++◌, length, None, Some, IsTrue};
-ghost use Rattle.cm_io.specs.Told.{add};
+ghost use Rattle.cm_io.specs.Contents.{add};
 ghost use Rattle.cm_run.specs.Cause.{counts};
 ghost use Rattle.cm_run.specs.Event.{trials_of};
 ghost use Rattle.cm_run.specs.Keeping.{KeepsLine};
@@ -8,7 +8,7 @@ ghost use Rattle.tt_screen.specs.Grid.{feed};
 ghost use Rattle.tt_screen.specs.Holds.{Holds};
 ghost use Rattle.ex_image.specs.Image.{image_text};
 ghost use Rattle.ex_store.specs.State.{State};
-ghost use Rattle.ex_system.specs.Asked.{form_view};
+ghost use Rattle.ex_system.specs.WordViews.{form_view};
 ghost use Rattle.ex_system.specs.Disk.{disk_of};
 ghost use Rattle.ex_system.specs.Form.{Form};
 ghost use Rattle.ex_system.specs.Quiet.{IsQuiet};
@@ -20,7 +20,7 @@ ghost use Rattle.ex_run.specs.declared.program.TheConstants.{KEY_LIMIT};
 ghost use Rattle.mm_mail.specs.Form.{form_of};
 ghost use Rattle.mm_mail.specs.MailRun.{Stands, mail_left, mail_trace, run_shown};
 ghost use Rattle.mm_mail.specs.MailState.{mail_start};
-ghost use Rattle.mm_mail.specs.Meaning.{mail_meaning, mail_over};
+ghost use Rattle.mm_mail.specs.Semantics.{mail_over, mail_semantics};
 
 use crate::grammar::mail_grammar;
 use crate::mail::Mail;
@@ -80,15 +80,15 @@ fn run_form<H: Host, K: Source, S: Sink, C: Clock, L: Ledger>(
 }
 
 /// The program `mm20`: mail over the files of a system, in the mailbox of its connected directory. It takes the keys in
-/// turn, shows what they come to, does what confirmed lines command, and writes the image at the end.
+/// turn, shows what they do, does what confirmed lines command, and writes the image at the end.
 ///
 /// `words` are `IN OUT`. The run begins from the image in the file IN of `host`, and its own is written to the file
 /// OUT. A key edits the line on `screen`; a line that is confirmed acts, at a moment of `clock`; a message that is
 /// typed in is sent at control-Z. There is no log. The status is Usage exactly where the words are others, before
-/// anything else is touched, and NoMemory where memory is wanting, before the first prompt, at a line of SEND or where
+/// anything else is touched, and NoMemory where memory runs out, before the first prompt, at a line of SEND or where
 /// its message is sent. The others are said of below, clause by clause.
 ///
-/// `steps` counts the trials: a key costs those of its line behind the fields that the unchanged front of the line
+/// `steps` counts the trials: a key costs those of its line after the fields that the unchanged front of the line
 /// decides.
 pub fn mm20<H: Host, K: Source, S: Sink, C: Clock, L: Ledger>(
     alloc: Global,
@@ -103,7 +103,7 @@ pub fn mm20<H: Host, K: Source, S: Sink, C: Clock, L: Ledger>(
     // IN has ..
     ensures done_shown { IsTrue K.tells → IsTrue C.tells → result ≡ Status.Done
         → (form : Form) → (start : State) → Asks (form_of words.now) (disk_of H.Host host.old) form start
-        → S.told screen.new ≡ add (S.told screen.old) (run_shown start (C.left clock.old) (K.left keys.old)) }
+        → S.contents screen.new ≡ add (S.contents screen.old) (run_shown start (C.left clock.old) (K.left keys.old)) }
     // .. the counter has risen by what the trials of all keys cost ..
     ensures done_counted { IsTrue K.tells → IsTrue C.tells → result ≡ Status.Done
         → (form : Form) → (start : State) → Asks (form_of words.now) (disk_of H.Host host.old) form start
@@ -114,12 +114,12 @@ pub fn mm20<H: Host, K: Source, S: Sink, C: Clock, L: Ledger>(
         → H.files host.new form.out
         ≡ Some (image_text (mail_left start (C.left clock.old) (K.left keys.old)).state) }
 
-    // Behind each beginning of the keys taken the screen shows the prompt and the line as they then are, where the next
+    // After each beginning of the keys taken the screen shows the prompt and the line as they then are, where the next
     // key is for a line: all that the run over them shows leaves both on any screen whose last row was blank.
     ensures on_screen { IsTrue K.tells → IsTrue C.tells → (form : Form) → (start : State)
         → Asks (form_of words.now) (disk_of H.Host host.old) form start
         → (taken rest : List ℕ) → (taken ++ rest) ++ K.left keys.new ≡ K.left keys.old
-        → KeepsLine feed Holds mail_meaning (mail_start start) (C.left clock.old) taken }
+        → KeepsLine feed Holds mail_semantics (mail_start start) (C.left clock.old) taken }
 
     // What stands, whatever the status. Before the first prompt the message alone is shown, IN is loaded once, and OUT
     // is not created. Past it the trace of the run stands, or a cut of it, and then how it was closed; OUT is created

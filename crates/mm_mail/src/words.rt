@@ -1,7 +1,7 @@
 // What the words of the program ask for.
 ghost use Rattle.std.specs.Prelude.{◌≡◌};
 ghost use Rattle.std.specs.Option.{option_map};
-ghost use Rattle.ex_system.specs.Asked.{form_view};
+ghost use Rattle.ex_system.specs.WordViews.{form_view};
 ghost use Rattle.mm_mail.specs.Form.{form_of, usage};
 
 use ex_system::{Form, Words, as_pair, in_out};

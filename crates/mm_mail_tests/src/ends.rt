@@ -9,7 +9,7 @@ screen @SEND SMITH \"HI\"{EOL}BYE{EOL}?Read fault{EOL}
 status ReadFault
 left {^Z}QUIT{CR}
 
-# behind it: it is sent
+# after it: it is sent
 get 20
 clock 0
 keys SEND SMITH \"HI\"{CR}BYE{^Z}QUIT{CR}
@@ -52,7 +52,7 @@ out {HEAD}F OPERATOR MSG-0001.MAIL.1 D 1 0 - 1{LF}A{LF}E{LF}
 status WriteFault
 left QUIT{CR}
 
-# the file cannot be created, behind the whole run
+# the file cannot be created, after the whole run
 call 1
 keys HEADERS{CR}QUIT{CR}
 screen @HEADERS{EOL}@QUIT{EOL}?Host fault{EOL}
@@ -90,6 +90,7 @@ out none
 status BadImage { at: 9, kind: Cut }
 left QUIT{CR}";
 
+// [close]
 #[test]
 fn each_status_has_its_cause(rt: HostRuntime) -> Result<(), Fail> {
     try_cases(&rt, EACH_STATUS_HAS_ITS_CAUSE)

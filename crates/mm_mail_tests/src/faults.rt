@@ -2,7 +2,7 @@
 // host, and each of the first gets and puts with each call of the host.
 //
 // What must stand is the trace of the whole session, cut where a call fails. The screen fails in one put alone, and
-// would take what is put behind it.
+// would take what is put after it.
 use crate::given::run_program;
 use cm_faults::{
     Failing, NOTHING, Part, PartSink, Stands, closing, has_image, is_written, push_text, stands_at,
@@ -19,7 +19,7 @@ const KEYS: &[u8] = b"S A \"B\"\rX\x1aR 1\rD 1\rQ\r";
 
 const INPUT: &str = "EXEC20 2|D A 1|D OPERATOR 1|C A|E|";
 
-// Behind `act` is the image, with `/` between its writes: as it was, with the message, and with the message marked.
+// After `act` is the image, with `/` between its writes: as it was, with the message, and with the message marked.
 const TRACE: &str = "act EXEC20 2|/D A 1|/D OPERATOR 1|/C A|/E|
 show @
 get
@@ -129,7 +129,7 @@ fn count_left(keys: &mut MemSource) -> usize {
     left
 }
 
-// Whether the keys behind those that were taken are left, and IN is as it was.
+// Whether the keys after those that were taken are left, and IN is as it was.
 fn is_left(alloc: Global, outcome: &mut Outcome, gets: usize) -> Result<bool, AllocError> {
     let has_image = has_image(alloc, &outcome.host, INPUT)?;
     let left = count_left(&mut outcome.keys);
@@ -194,7 +194,7 @@ fn try_one(runtime: &HostRuntime, failing: &Failing, whole: &Outcome) -> Result<
     )))
 }
 
-// With each call of the host, and behind these with one that is not made.
+// With each call of the host, and after these with one that is not made.
 fn try_calls(runtime: &HostRuntime, failing: Failing, whole: &Outcome) -> Result<(), Fail> {
     for call in 0..CALLS {
         let both = Failing {
@@ -220,7 +220,7 @@ fn try_number(
     Ok(())
 }
 
-// The get behind the last key is not made.
+// The get after the last key is not made.
 fn try_gets(runtime: &HostRuntime) -> Result<(), Fail> {
     let whole = session(runtime, &NOTHING)?;
     for get in 0..KEYS.len().saturating_add(1) {

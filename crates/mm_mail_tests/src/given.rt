@@ -7,7 +7,7 @@ use mm_mail::{Status, Words, mm20};
 use std::marker::Brand;
 use std::sync::ledger::{Blank, Ledger};
 
-// What a run is given behind its words, and what of it fails. The moments are 1, 2, 3 and so on, or the first moment
+// What a run is given after its words, and what of it fails. The moments are 1, 2, 3 and so on, or the first moment
 // and then 0.
 #[derive(Clone, Copy)]
 pub struct Given<'a> {

@@ -55,7 +55,7 @@ fn shows_what_may_come(rt: HostRuntime) -> Result<(), Fail> {
     try_cases(&rt, SHOWS_WHAT_MAY_COME)
 }
 
-const COMPLETES_WHAT_WAS_BEGUN: &str = "# a name of a user, with the guide word behind it
+const COMPLETES_WHAT_WAS_BEGUN: &str = "# a name of a user, with the guide word after it
 keys SEND S{ESC}
 screen @SEND SMITH (ABOUT) {EOL}
 
@@ -115,7 +115,7 @@ in {HEAD}F OPERATOR MSG-0002.MAIL.1 U 1 0 - 1{LF}B{LF}E{LF}
 keys DEL 2{^U}READ 2{CR}
 screen @DEL 2{RUB}{RUB}{RUB}{RUB}{RUB}READ 2{EOL}B{EOL}@{EOL}
 
-# what stood before the fault comes back, but not behind a refusal of the command
+# what stood before the fault comes back, but not after a refusal of the command
 keys READ X{CR}{^H}1{CR}{^H}
 screen @READ X{EOL}?Value not accepted{EOL}@READ 1{EOL}?No such message{EOL}@{BEL}{EOL}
 

@@ -41,7 +41,7 @@ fn lists_messages(rt: HostRuntime) -> Result<(), Fail> {
 }
 
 const READS_MESSAGES: &str =
-    "# the bytes as they are; the end of a line is shown behind what ends in none
+    "# the bytes as they are; the end of a line is shown after what ends in none
 in {HEAD}F OPERATOR MSG-0001.MAIL.1 U 1 0 - 5{LF}A{9}{0}{255}B{LF}F OPERATOR MSG-0002.MAIL.1 U 1 0 5 2{LF}A{LF}{LF}
 in F OPERATOR MSG-0003.MAIL.1 U 1 0 - 0{LF}{LF}F OPERATOR MSG-0004.MAIL.1 U 1 0 - 2{LF}A{CR}{LF}E{LF}
 keys READ 1{CR}READ 2{CR}READ 3{CR}READ 4{CR}

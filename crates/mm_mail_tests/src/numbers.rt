@@ -40,7 +40,7 @@ fn reads_numbers(rt: HostRuntime) -> Result<(), Fail> {
     try_cases(&rt, READS_NUMBERS)
 }
 
-const GIVES_THE_NEXT_NUMBER: &str = "# behind the greatest, though smaller ones are free
+const GIVES_THE_NEXT_NUMBER: &str = "# after the greatest, though smaller ones are free
 in {HEAD}F SMITH MSG-0041.MAIL.1 U 1 0 - 0{LF}{LF}E{LF}
 clock 0
 keys SEND SMITH \"A\"{CR}{^Z}

@@ -8,13 +8,13 @@ keys SEND OPERATOR \"HI\"{CR}BYE{^Z}READ 1{CR}
 screen @SEND OPERATOR \"HI\"{EOL}BYE^Z{EOL} Sent to OPERATOR 0001{EOL}@READ 1{EOL}OPERATOR: HI{EOL}BYE{EOL}@{EOL}
 out {HEAD}F OPERATOR MSG-0001.MAIL.1 U 1 0 - 17{LF}OPERATOR: HI{EOL}BYE{LF}E{LF}
 
-# with nothing behind its subject
+# with nothing after its subject
 clock 0
 keys SEND OPERATOR \"HI\"{CR}{^Z}READ 1{CR}
 screen @SEND OPERATOR \"HI\"{EOL}^Z{EOL} Sent to OPERATOR 0001{EOL}@READ 1{EOL}OPERATOR: HI{EOL}@{EOL}
 out {HEAD}F OPERATOR MSG-0001.MAIL.1 U 1 0 - 14{LF}OPERATOR: HI{EOL}{LF}E{LF}
 
-# TAB, LF, DEL, and keys that ring: ESC, ?, which is a byte here, control-U and DEL behind the end of a line
+# TAB, LF, DEL, and keys that ring: ESC, ?, which is a byte here, control-U and DEL after the end of a line
 clock 0
 keys SEND SMITH \"HI\"{CR}A{TAB}?{ESC}{^U}BC{DEL}{LF}{DEL}D{^Z}
 screen @SEND SMITH \"HI\"{EOL}A ?{BEL}{BEL}BC{RUB}{EOL}{BEL}D^Z{EOL} Sent to SMITH 0001{EOL}@{EOL}
@@ -44,6 +44,7 @@ keys SEND SMITH \"HI\"{CR}{^Z}
 screen @SEND SMITH \"HI\"{EOL}^Z{EOL} Sent to SMITH 0001{EOL}@{EOL}
 out ..C OPERATOR{LF}F SMITH MSG-0001.MAIL.1 U 5 0 - 14{LF}OPERATOR: HI{EOL}{LF}E{LF}";
 
+// [message]
 #[test]
 fn types_a_message_in(rt: HostRuntime) -> Result<(), Fail> {
     try_cases(&rt, TYPES_A_MESSAGE_IN)

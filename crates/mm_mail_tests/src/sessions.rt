@@ -28,7 +28,7 @@ fn sends_and_reads(rt: HostRuntime) -> Result<(), Fail> {
     try_cases(&rt, SENDS_AND_READS)
 }
 
-const ENDS_AT_QUIT: &str = "# no key is asked for behind it
+const ENDS_AT_QUIT: &str = "# no key is asked for after it
 keys QUIT{CR}HEADERS{CR}
 screen @QUIT{EOL}
 left HEADERS{CR}

@@ -5,9 +5,9 @@ ghost use Rattle.std.specs.Prelude.{◌≡◌, ◌<◌};
 
 use cm_blocks::Steps;
 use cm_io::{Sink, Source, StdSink, StdSource};
-use cm_run::Stop;
+use cm_run::{Stop, status_of};
+use eg_router::Router;
 use eg_router::grammar::grammar;
-use eg_router::{Router, status_of};
 use std::marker::Brand;
 use std::process::ExitCode;
 use std::sync::ledger::{Blank, Ledger};
@@ -17,14 +17,14 @@ fn main(rt: HostRuntime) -> ExitCode {
     let mut router = Router::new();
     let mut keys = StdSource::new(&rt);
     let mut screen = StdSink::new(&rt);
-    let went = run::<StdSource, StdSink, Brand>(
+    let outcome = run::<StdSource, StdSink, Brand>(
         &rt,
         Blank::new(1),
         &mut router,
         &mut keys,
         &mut screen,
     );
-    ExitCode::from(status_of(went))
+    ExitCode::from(status_of(outcome))
 }
 
 // Makes the grammar, and the counter of trials for this ledger, and runs the program.

@@ -17,7 +17,7 @@ fn main(rt: HostRuntime) -> ExitCode {
     ExitCode::from(status.number())
 }
 
-// The words behind the program's name. They are too many where the system cannot tell them.
+// The words after the program's name. They are too many where the system cannot tell them.
 fn given_words(rt: &(impl Env + Alloc)) -> Words {
     let Ok(args) = env::args(rt) else {
         return Words::untold();

@@ -1,4 +1,4 @@
--- Bytes that are fed in turn.
+-- [screen-row] Bytes that are fed in turn.
 use Rattle.std.proofs.Common.{◌≡◌, ℕ, ◌+◌, ◌≤◌, ◌==◌, Bool, true, false, List, [], ◌∷◌, ◌++◌, length, if◌then◌else◌, refl, arith}
 use Rattle.cm_io.specs.Display.{is_printed}
 use Rattle.tt_screen.specs.Grid.{Grid, feed, feed_byte}

@@ -2,7 +2,7 @@
 -- What bytes make of a screen that holds a text is one lemma for each kind of bytes, which is a field of IsDisplay.
 use Rattle.std.proofs.Common.{◌≡◌, ℕ, zero, suc, ◌+◌, ◌-◌, true, List, [], ◌∷◌, ◌++◌, length, take, get_or, replicate, slice_set, ◌≤◌, refl, ap, sym, subst, ◌∙◌, arith, append_assoc, length-append}
 use Rattle.std.proofs.lemmas.List.{append-nil, take_all, take_more}
-use Rattle.cm_text.specs.Shown.{bell, rubout}
+use Rattle.cm_text.specs.ScreenBytes.{bell, rubout}
 use Rattle.cm_io.specs.Display.{ArePrinted, IsDisplay, is_printed}
 use Rattle.cm_io.specs.Pieces.{times}
 use Rattle.tt_screen.specs.declared.row.TheConstants.{WIDTH}
@@ -10,7 +10,7 @@ use Rattle.tt_screen.specs.Grid.{Grid, blank_row, feed, feed_byte}
 use Rattle.tt_screen.specs.Holds.{Holds, cells_of, row_of}
 use Rattle.tt_screen.proofs.Feeds.{feed-append}
 
--- cells behind a text that are written on
+-- cells after a text that are written on
 set_cells : (cells : ℕ) (text : List ℕ) (byte : ℕ) → slice_set (cells_of cells text) (length text) byte ≡ cells_of cells (text ++ byte ∷ [])
 set_cells zero text byte = refl
 set_cells (suc cells) [] byte = refl
@@ -23,7 +23,7 @@ again_cells zero text old byte = refl
 again_cells (suc cells) [] old byte = refl
 again_cells (suc cells) (first ∷ text) old byte = ap (λ row. first ∷ row) (again_cells cells text old byte)
 
--- a space behind a text leaves the row that it has without it
+-- a space after a text leaves the row that it has without it
 space_cells : (cells : ℕ) (text : List ℕ) → cells_of cells (text ++ 32 ∷ []) ≡ cells_of cells text
 space_cells zero text = refl
 space_cells (suc cells) [] = refl
@@ -37,7 +37,7 @@ blank_holds : blank_row ≡ row_of []
 unfolding blank_row row_of
 blank_holds = blank_cells WIDTH
 
--- a byte that is printed comes to the text
+-- a byte that is printed is added to the text
 pub holds_byte : (grid : Grid) (text : List ℕ) (byte : ℕ) → is_printed byte ≡ true → Holds grid text
     → Holds (feed_byte grid byte) (text ++ byte ∷ [])
 unfolding feed_byte row_of
@@ -86,7 +86,7 @@ pub holds_bell : (grid : Grid) (text : List ℕ) → Holds grid text → Holds (
 unfolding feed_byte is_printed bell
 holds_bell grid text holds = holds
 
--- behind a line feed the last row is blank
+-- after a line feed the last row is blank
 pub holds_none : (grid : Grid) (bytes : List ℕ) → Holds (feed grid (bytes ++ 10 ∷ [])) []
 unfolding feed_byte is_printed
 holds_none grid bytes =

@@ -5,25 +5,25 @@
 use Rattle.std.proofs.Common.{◌≡◌, ℕ, zero, suc, ◌+◌, ◌≤◌, Bool, List, [], ◌∷◌, ◌++◌, length, refl, ap, sym, subst, ◌∙◌, arith, append_assoc, length-append}
 use Rattle.std.specs.Bool.{IsTrue}
 use Rattle.cm_io.specs.Fault.{next_count}
-use Rattle.tt_screen.specs.End.{gets_behind}
+use Rattle.tt_screen.specs.End.{gets_after}
 use Rattle.tt_screen.specs.Grid.{Grid, blank_grid, feed, feed_byte}
-use Rattle.tt_screen.specs.Kept.{Kept, kept_of}
+use Rattle.tt_screen.specs.KeptRows.{Kept, kept_of}
 use Rattle.tt_screen.proofs.Feeds.{feed-append, column-feed}
 
 -- so many gets were asked
 abbrev pub Asked : ℕ → ℕ → ℕ → Type 0
 Asked gets now zero = now ≡ gets
-Asked gets now (suc count) = now ≡ gets_behind gets (suc count)
+Asked gets now (suc count) = now ≡ gets_after gets (suc count)
 
 -- one get more
-pub asked_more : (gets now later count : ℕ) → Asked gets now count → later ≡ next_count now → later ≡ gets_behind gets (count + 1)
+pub asked_more : (gets now later count : ℕ) → Asked gets now count → later ≡ next_count now → later ≡ gets_after gets (count + 1)
 asked_more gets now later zero asked more = omega (arith, asked, more)
 asked_more gets now later (suc count) asked more = omega (arith, asked, more)
 
-pub asked_turn : (gets later count : ℕ) → later ≡ gets_behind gets (count + 1) → Asked gets later (count + 1)
+pub asked_turn : (gets later count : ℕ) → later ≡ gets_after gets (count + 1) → Asked gets later (count + 1)
 asked_turn gets later count more =
     let same : suc count ≡ count + 1 = omega arith in
-    subst (λ n. Asked gets later n) same (more ∙ ap (λ n. gets_behind gets n) (sym same))
+    subst (λ n. Asked gets later n) same (more ∙ ap (λ n. gets_after gets n) (sym same))
 
 -- so many bytes were taken of a source that tells its bytes, and they are on the screen
 pub record Fed (tells : Bool) (before now : List ℕ) (screen : Kept) (count : ℕ) : Type 0 where

@@ -7,7 +7,7 @@ use Rattle.cm_io.specs.declared.sink.Sink.{Ghosts}
 use Rattle.cm_io.specs.declared.writer.Writer.{Writer}
 use Rattle.cm_io.specs.Writer.{Writes}
 use Rattle.cm_io.proofs.Texts.{writes_each, writes_none}
-use Rattle.tt_screen.specs.Shown.{row_line, rows_text}
+use Rattle.tt_screen.specs.ScreenText.{row_line, rows_text}
 
 -- no row is written at first
 pub no_rows : {T : Type 0} (s : Ghosts T) (a : Writer T) → Writes s a a (rows_text [])

@@ -1,8 +1,8 @@
 -- How a run of the program ends: what was read and shown, and when each status comes.
 use Rattle.std.specs.Prelude.{◌≡◌, ℕ, ◌+◌, ◌-◌, ◌<◌, ◌≤◌, List, [], ◌++◌, length, min, codes}
-use Rattle.cm_text.specs.Shown.{end_of_line}
+use Rattle.cm_text.specs.ScreenBytes.{end_of_line}
 use Rattle.cm_io.specs.declared.sink.Put.{Put}
-use Rattle.cm_io.specs.Told.{Told, add, Adds, AddsPart}
+use Rattle.cm_io.specs.Contents.{Contents, add, Adds, AddsPart}
 use Rattle.cm_io.specs.Fault.{PutCause, Rose, last_count}
 use Rattle.tt_screen.specs.declared.program.TheConstants.{KEY_LIMIT}
 use Rattle.tt_screen.specs.declared.program.Read.{Read}
@@ -10,8 +10,8 @@ use Rattle.tt_screen.specs.declared.program.Read.TheVariants as reads
 use Rattle.tt_screen.specs.declared.status.Status.{Status}
 use Rattle.tt_screen.specs.declared.status.Status.TheVariants.{Done, ReadFault, WriteFault, KeyLimit}
 use Rattle.tt_screen.specs.Grid.{blank_grid, feed}
-use Rattle.tt_screen.specs.Kept.{Kept, kept_of}
-use Rattle.tt_screen.specs.Shown.{screen_text}
+use Rattle.tt_screen.specs.KeptRows.{Kept, kept_of}
+use Rattle.tt_screen.specs.ScreenText.{screen_text}
 
 -- the number that the process ends with
 abbrev pub number_of : Status → ℕ
@@ -51,31 +51,31 @@ Reads before now WriteFault = TakesAll before now
 Reads before now ReadFault = TakesSome before now
 Reads before now KeyLimit = Takes before now KEY_LIMIT
 
--- a count of gets behind so many more; it stays at its last value
-abbrev pub gets_behind : ℕ → ℕ → ℕ
-gets_behind gets more = min (gets + more) last_count
+-- a count of gets after so many more; it stays at its last value
+abbrev pub gets_after : ℕ → ℕ → ℕ
+gets_after gets more = min (gets + more) last_count
 
--- how many gets it asks: one for each byte that it takes, and one more, which finds the end or fails; none behind the
+-- how many gets it asks: one for each byte that it takes, and one more, which finds the end or fails; none after the
 -- limit
 abbrev pub Asks : List ℕ → List ℕ → ℕ → ℕ → Status → Type 0
-Asks before now gets gets' KeyLimit = gets' ≡ gets_behind gets (length before - length now)
-Asks before now gets gets' result = gets' ≡ gets_behind gets (length before - length now + 1)
+Asks before now gets gets' KeyLimit = gets' ≡ gets_after gets (length before - length now)
+Asks before now gets gets' result = gets' ≡ gets_after gets (length before - length now + 1)
 
 -- what it shows of the bytes that it reads to their end
-abbrev pub PutsRows : List ℕ → Told → Told → Status → Type 0
+abbrev pub PutsRows : List ℕ → Contents → Contents → Status → Type 0
 PutsRows bytes before now Done = now ≡ add before (screen_text bytes)
 PutsRows bytes before now WriteFault = AddsPart before now (screen_text bytes)
 PutsRows bytes before now ReadFault = Unit
 PutsRows bytes before now KeyLimit = Unit
 
 -- a text was put, and maybe cut
-pub record Tries (before now : Told) (faults faults' : ℕ) (text : List ℕ) : Type 0 where
-  pub went : Put
-  pub bytes : Adds before now text went
-  pub cause : PutCause faults faults' went
+pub record Tries (before now : Contents) (faults faults' : ℕ) (text : List ℕ) : Type 0 where
+  pub outcome : Put
+  pub bytes : Adds before now text outcome
+  pub cause : PutCause faults faults' outcome
 
 -- and where it does not read to the end, the line of its message
-abbrev pub Complains : Told → Told → ℕ → ℕ → Status → Type 0
+abbrev pub Complains : Contents → Contents → ℕ → ℕ → Status → Type 0
 Complains before now faults faults' Done = Unit
 Complains before now faults faults' WriteFault = Unit
 Complains before now faults faults' ReadFault = Tries before now faults faults' (message_of ReadFault ++ end_of_line)
@@ -101,5 +101,5 @@ ReadCause keys keys' reads.Failed = Rose keys keys'
 ReadCause keys keys' reads.TooMany = keys' ≡ keys
 
 abbrev pub ReadAsks : List ℕ → List ℕ → ℕ → ℕ → Read → Type 0
-ReadAsks before now gets gets' reads.TooMany = gets' ≡ gets_behind gets (length before - length now)
-ReadAsks before now gets gets' result = gets' ≡ gets_behind gets (length before - length now + 1)
+ReadAsks before now gets gets' reads.TooMany = gets' ≡ gets_after gets (length before - length now)
+ReadAsks before now gets gets' result = gets' ≡ gets_after gets (length before - length now + 1)

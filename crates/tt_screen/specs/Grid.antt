@@ -43,7 +43,7 @@ feed_byte grid byte =
     else (if byte == 10 then with_row grid
     else grid)))
 
--- the same of bytes in turn
+-- [screen-row] the same of bytes in turn
 abbrev pub feed : Grid → List ℕ → Grid
 feed grid [] = grid
 feed grid (byte ∷ bytes) = feed (feed_byte grid byte) bytes

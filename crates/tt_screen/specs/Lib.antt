@@ -1,5 +1,5 @@
-pub mod Grid
-pub mod Kept
-pub mod Shown
 pub mod End
+pub mod Grid
 pub mod Holds
+pub mod KeptRows
+pub mod ScreenText

@@ -15,7 +15,7 @@ pub fn these_are_the_numbers()
     ensures keys { KEY_LIMIT ≡ 2 ^ 24 }
 {}
 
-/// The screen is a display: where its last row holds a text, printed bytes go behind it, a bell leaves it, and rubouts
+/// The screen is a display: where its last row holds a text, printed bytes go after it, a bell leaves it, and rubouts
 /// take bytes off its end, for texts of every length. So it shows prompt and line of whatever keeps them on displays.
 pub fn a_plain_screen_is_a_display()
     ensures { IsDisplay feed Holds }

@@ -1,13 +1,13 @@
 // The run of `tt20`.
 ghost use Rattle.std.specs.Prelude.{◌≡◌, ◌≤◌, ◌++◌, IsTrue};
-ghost use Rattle.cm_text.specs.Shown.{end_of_line};
+ghost use Rattle.cm_text.specs.ScreenBytes.{end_of_line};
 ghost use Rattle.cm_io.specs.Fault.{PutCause};
-ghost use Rattle.cm_io.specs.Told.{Adds};
+ghost use Rattle.cm_io.specs.Contents.{Adds};
 ghost use Rattle.cm_io.specs.Writer.{Writes};
 ghost use Rattle.tt_screen.specs.End.{Asks, Complains, EndCause, Feeds, PutsRows, ReadAsks, ReadCause, Reads, Tries, message_of};
 ghost use Rattle.tt_screen.specs.Grid.{blank_grid};
-ghost use Rattle.tt_screen.specs.Kept.{kept_of};
-ghost use Rattle.tt_screen.specs.Shown.{row_line, rows_text};
+ghost use Rattle.tt_screen.specs.KeptRows.{kept_of};
+ghost use Rattle.tt_screen.specs.ScreenText.{row_line, rows_text};
 
 use crate::{Row, Screen, Status};
 use cm_io::{Got, Put, Sink, Source, Writer, put_line};
@@ -35,8 +35,8 @@ pub fn tt20<K: Source, S: Sink>(keys: &mut K, screen: &mut S) -> Status
     ensures asks { IsTrue K.tells → Asks (K.left keys.old) (K.left keys.new)
         (K.gets keys.old) (K.gets keys.new) result }
     // What is shown: the rows, or a part of them, or the line of a message, which may be cut too.
-    ensures rows { IsTrue K.tells → PutsRows (K.left keys.old) (S.told screen.old) (S.told screen.new) result }
-    ensures message { Complains (S.told screen.old) (S.told screen.new)
+    ensures rows { IsTrue K.tells → PutsRows (K.left keys.old) (S.contents screen.old) (S.contents screen.new) result }
+    ensures message { Complains (S.contents screen.old) (S.contents screen.new)
         (S.faults screen.old) (S.faults screen.new) result }
     // When each status comes.
     ensures cause { EndCause (K.faults keys.old) (K.faults keys.new)
@@ -74,13 +74,13 @@ fn feed_all<K: Source>(keys: &mut K, shown: &mut Screen) -> Read
 
 // Puts the rows that are kept.
 fn put_screen<S: Sink>(shown: &Screen, screen: &mut S) -> Put
-    ensures bytes { Adds (S.told screen.old) (S.told screen.new) (rows_text shown.now.rows) result }
+    ensures bytes { Adds (S.contents screen.old) (S.contents screen.new) (rows_text shown.now.rows) result }
     ensures later { S.faults screen.old ≤ S.faults screen.new }
     ensures cause { PutCause (S.faults screen.old) (S.faults screen.new) result }
 {
     let mut out = Writer::new(screen);
     put_rows(shown, &mut out);
-    out.went()
+    out.outcome()
 }
 
 #[tactic(auto, using(crate::proofs::WrittenRows::no_rows, crate::proofs::WrittenRows::row_more))]
@@ -92,7 +92,7 @@ fn put_rows<S: Sink>(shown: &Screen, out: &mut Writer<'_, S>)
     }
 }
 
-#[tactic(auto, unfolding(crate::specs::Shown::row_line))]
+#[tactic(auto, unfolding(crate::specs::ScreenText::row_line))]
 fn put_row<S: Sink>(row: &Row, out: &mut Writer<'_, S>)
     ensures { Writes S.Sink out.old out.new (row_line row.now) }
 {
@@ -102,7 +102,7 @@ fn put_row<S: Sink>(row: &Row, out: &mut Writer<'_, S>)
 // Puts the line of a message, as far as it goes, and hands the status back.
 fn complain<S: Sink>(status: Status, screen: &mut S) -> Status
     ensures status { result ≡ status }
-    ensures message { Tries (S.told screen.old) (S.told screen.new)
+    ensures message { Tries (S.contents screen.old) (S.contents screen.new)
         (S.faults screen.old) (S.faults screen.new) (message_of status ++ end_of_line) }
     ensures later { S.faults screen.old ≤ S.faults screen.new }
 {

@@ -1,7 +1,7 @@
 // A row of the screen.
 ghost use Rattle.std.specs.Prelude.{◌≡◌, ◌-◌, ◌≤◌, length, slice_set};
 ghost use Rattle.std.specs.List.{suffix_len};
-ghost use Rattle.tt_screen.specs.Shown.{is_space, row_text};
+ghost use Rattle.tt_screen.specs.ScreenText.{is_space, row_text};
 
 use std::marker::Model;
 

@@ -1,7 +1,7 @@
 // The screen.
 ghost use Rattle.std.specs.Prelude.{◌≡◌, ◌+◌, ◌-◌, ◌^◌, ◌<◌, ◌≤◌, Some, length, slice_get, slice_set};
 ghost use Rattle.tt_screen.specs.Grid.{Grid, blank_grid, feed_byte, rows_of, with_row};
-ghost use Rattle.tt_screen.specs.Kept.{kept_of, last_rows};
+ghost use Rattle.tt_screen.specs.KeptRows.{kept_of, last_rows};
 
 use crate::Row;
 use arrayvec::ArrayVec;
@@ -21,7 +21,7 @@ pub struct Screen {
 impl Model for Screen {
     ghost use Rattle.std.specs.Prelude.{◌<◌, ◌≤◌, length};
     ghost use Rattle.tt_screen.specs.declared.screen.TheConstants.{KEPT_ROWS};
-    ghost use Rattle.tt_screen.specs.Kept.{Kept};
+    ghost use Rattle.tt_screen.specs.KeptRows.{Kept};
 
     ghost Value = { Kept };
 
@@ -47,6 +47,7 @@ impl Screen {
     #[tactic(auto, unfolding(crate::specs::Grid::feed_byte, cm_io::specs::Display::is_printed))]
     pub fn feed(&mut self, byte: u8)
         requires { self.old.column < 2 ^ 32 - 1 }
+        // [screen-row]
         ensures { (grid : Grid) → self.old ≡ kept_of grid → self.new ≡ kept_of (feed_byte grid byte) }
     {
         match byte {

@@ -1,7 +1,7 @@
 // A run of `tt20` with each get failing, each put on the screen, and each get with each put of the message.
 //
 // What must stand is the trace of the whole run, cut where a call fails. The screen fails in one put alone, and would
-// take what is put behind it.
+// take what is put after it.
 use cm_faults::{Faults, Part, PartSink, Stop, stands_at};
 use cm_io::{Got, MemSource, NoMemory, Source};
 use std::alloc::Global;
@@ -10,7 +10,7 @@ use tt_screen::{Status, tt20};
 
 const KEYS: &[u8] = b"AB\x08C\r\n\nD";
 
-// The rows are put behind the last get, that of the end.
+// The rows are put after the last get, that of the end.
 const TRACE: &str = "get
 get
 get
@@ -129,7 +129,7 @@ fn try_puts(
     let whole = run(alloc, get, None, part)?;
     for put in 0..whole.screen.puts() {
         let outcome = run(alloc, get, Some(put), part)?;
-        let screen = whole.screen.held_behind(put, part);
+        let screen = whole.screen.held_after(put, part);
         let is_so = shows(alloc, events, screen, outcome.screen.bytes())?
             && outcome.left == whole.left
             && outcome.status == status;
@@ -140,7 +140,7 @@ fn try_puts(
     Ok(())
 }
 
-// Behind the get of the end there is none more.
+// After the get of the end there is none more.
 #[test]
 fn stands_where_the_bytes_fail(rt: HostRuntime) -> Result<(), Fail> {
     for get in 0..11u32 {

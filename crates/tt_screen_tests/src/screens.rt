@@ -63,6 +63,7 @@ AB{LF}C|AB{EOL}C{EOL}
 ~ A{3*SP}|~ A{EOL}
 {3*EOL}|{EOL}{EOL}{EOL}{EOL}";
 
+// [screen-row]
 #[test]
 fn shows_what_stands_on_the_rows(rt: HostRuntime) -> Result<(), Fail> {
     tries(rt.alloc(), ROWS)

@@ -1,11 +1,11 @@
-// What stands on the screen behind the keys of a session.
+// What stands on the screen after the keys of a session.
 ghost use Rattle.std.specs.Prelude.{◌≡◌, ◌<◌, [], ◌∷◌, length};
 ghost use Rattle.cm_text.specs.declared.text.TheConstants.{JOIN};
 ghost use Rattle.cm_blocks.specs.Fault.{grammar_fault};
 ghost use Rattle.cm_blocks.specs.Setting.{Setting, setting};
 ghost use Rattle.cm_hooks.specs.Meanings.{no_meanings};
 ghost use Rattle.cm_state.specs.SessionState.{IsReady};
-ghost use Rattle.cm_run.specs.Shows.{row_behind};
+ghost use Rattle.cm_run.specs.Shows.{row_after};
 
 use crate::commands::grammar_of;
 use crate::notation::push_said;
@@ -50,7 +50,7 @@ impl Run {
         assert_eq!(rt; begun, Put::Done);
     }
 
-    // Takes one key. Behind a line that is over it begins another.
+    // Takes one key. After a line that is over it begins another.
     fn key<N: Names, L: Ledger>(
         &mut self,
         rt: &impl Abort,
@@ -252,7 +252,7 @@ fn shows_the_rows_of_continued_lines(rt: HostRuntime) -> Result<(), Fail> {
 
 // Of a line of three rows the last row of the screen holds the third, each TAB as a space, and nothing of the prompt.
 fn the_last_row_holds_the_third()
-    ensures { row_behind (64 ∷ []) (65 ∷ JOIN ∷ 66 ∷ JOIN ∷ 9 ∷ 67 ∷ []) ≡ 32 ∷ 67 ∷ [] }
+    ensures { row_after (64 ∷ []) (65 ∷ JOIN ∷ 66 ∷ JOIN ∷ 9 ∷ 67 ∷ []) ≡ 32 ∷ 67 ∷ [] }
 {}
 
 // The plain screen, as one of the displays.
@@ -279,6 +279,6 @@ fn the_laws_hold() {
     cm_run::laws::a_key_keeps_the_screen::<PlainScreen>();
     cm_run::laws::a_reply_ends_its_line::<PlainScreen>();
     cm_run::laws::a_line_without_a_join_is_one_row();
-    cm_run::laws::a_row_begins_behind_a_join();
+    cm_run::laws::a_row_begins_after_a_join();
     the_last_row_holds_the_third();
 }

@@ -2,14 +2,14 @@
 ghost use Rattle.std.specs.Prelude.{◌≡◌, ◌+◌, ◌≤◌, ◌<◌, true, [], length, None, if◌then◌else◌};
 ghost use Rattle.cm_text.specs.Text.{IsLine, finished};
 ghost use Rattle.cm_text.specs.declared.text.TheConstants.{LINE_LIMIT};
-ghost use Rattle.cm_io.specs.Told.{Adds};
+ghost use Rattle.cm_io.specs.Contents.{Adds};
 ghost use Rattle.cm_io.specs.Fault.{PutCause};
-ghost use Rattle.cm_blocks.specs.Kept.{cost, cost_behind};
+ghost use Rattle.cm_blocks.specs.KeptParse.{cost, cost_after};
 ghost use Rattle.cm_blocks.specs.Parse.{IsClosed, IsParse, parse_of};
 ghost use Rattle.cm_blocks.specs.Setting.{setting};
 ghost use Rattle.cm_state.specs.Edit.{before_fault, edited_as, parsed_again};
 ghost use Rattle.cm_state.specs.Echo.{with_prompt};
-ghost use Rattle.cm_state.specs.SessionState.{IsReady, at_start, met_line, parse_held, text_of};
+ghost use Rattle.cm_state.specs.SessionState.{IsReady, at_start, line_before, parse_held, text_of};
 ghost use Rattle.cm_state.specs.Stack.{Starts};
 ghost use Rattle.cm_state.specs.Turn.{turn_of};
 
@@ -40,13 +40,14 @@ impl Session {
     ) -> Turn
         requires line { IsLine line.now }
         requires node { node < length grammar.now.nodes }
-        // It is as behind a CR that finishes that line, whatever its last byte.
+        // It is as after a CR that finishes that line, whatever its last byte.
         ensures edited { self.new ≡ edited_as (setting grammar.now (N.catalogue names.now) (R.meanings rules.now))
-            (record (at_start node self.old.prompt self.old.restorable) { line = line.now }) KeyClass.End 13 }
+            (record (at_start node self.old.prompt self.old.recall) { line = line.now }) KeyClass.End 13 }
         ensures parse { IsParse (setting grammar.now (N.catalogue names.now) (R.meanings rules.now))
             node (finished line.now) self.new.fields self.new.ending }
         ensures ready { IsReady (setting grammar.now (N.catalogue names.now) (R.meanings rules.now)) self.new }
         ensures decided { IsClosed self.new.ending }
+        // [whole-line]
         ensures turn { result ≡ turn_of KeyClass.End self.new.ending }
         ensures steps { steps.new ≡ steps.old
             + cost (setting grammar.now (N.catalogue names.now) (R.meanings rules.now)) node [] (finished line.now) }
@@ -58,9 +59,10 @@ impl Session {
         self.turn(KeyClass::End)
     }
 
-    /// Parses the text afresh, where the catalogue has changed since its last key: a file or a directory has come or
-    /// gone. It shows nothing. Prompt and line stay, and the line stays finished where it is. What control-H brings
-    /// back stays too, but behind a finished line, where it is as that line's end would leave it now.
+    /// Parses the text afresh, where the catalogue or the rules have changed since its last key: a file, a directory or
+    /// a name of the program's own has come or gone. It shows nothing. Prompt and line stay, and the line stays
+    /// finished where it is. What control-H brings back stays too, but after a finished line, where it is as that
+    /// line's end would leave it now.
     pub fn parse_again<N: Names, R: Rules, L: Ledger>(
         &mut self,
         grammar: &Grammar,
@@ -82,26 +84,26 @@ impl Session {
     {
         grammar.has_no_fault();
         self.forget_fields();
-        self.parse_behind(grammar, names, rules, steps);
+        self.parse_after(grammar, names, rules, steps);
         self.hold_refused();
     }
 
     /// Shows the prompt and the line, as control-R does on a screen that stands at the front of a row: for a program
     /// that has shown something else in the midst of a line, and has ended that row.
     pub fn show<S: Sink>(&self, sink: &mut S) -> Put
-        ensures bytes { Adds (S.told sink.old) (S.told sink.new)
-            (with_prompt self.now.prompt (met_line self.now)) result }
+        ensures bytes { Adds (S.contents sink.old) (S.contents sink.new)
+            (with_prompt self.now.prompt (line_before self.now)) result }
         ensures later { S.faults sink.old ≤ S.faults sink.new }
         ensures cause { PutCause (S.faults sink.old) (S.faults sink.new) result }
     {
         let mut out = Writer::new(sink);
-        put_with_prompt(&self.prompt, self.met_line(), &mut out);
-        out.went()
+        put_with_prompt(&self.prompt, self.line_before(), &mut out);
+        out.outcome()
     }
 
     // The line that a key meets.
-    fn met_line(&self) -> &[u8]
-        ensures value { result.now ≡ met_line self.now }
+    fn line_before(&self) -> &[u8]
+        ensures value { result.now ≡ line_before self.now }
         ensures within { length result.now ≤ LINE_LIMIT }
     {
         if self.is_finished {
@@ -119,7 +121,7 @@ impl Session {
     }
 
     // Holds the parse of the text, which begins with the fields that are held.
-    fn parse_behind<N: Names, R: Rules, L: Ledger>(
+    fn parse_after<N: Names, R: Rules, L: Ledger>(
         &mut self,
         grammar: &Grammar,
         names: &N,
@@ -132,7 +134,7 @@ impl Session {
             ≡ parse_of (setting grammar.now (N.catalogue names.now) (R.meanings rules.now)) self.old.node
             (text_of self.old) }
         ensures same { self.new ≡ record self.old { fields = self.new.fields; ending = self.new.ending } }
-        ensures steps { steps.new ≡ steps.old + cost_behind
+        ensures steps { steps.new ≡ steps.old + cost_after
             (setting grammar.now (N.catalogue names.now) (R.meanings rules.now))
             self.old.node (text_of self.old) self.old.fields }
     {
@@ -148,29 +150,29 @@ impl Session {
         );
     }
 
-    // Behind a finished line holds of a refused one the bytes before its faulty field, and of any other nothing.
+    // After a finished line holds of a refused one the bytes before its faulty field, and of any other nothing.
     fn hold_refused(&mut self)
         ensures { self.new ≡ record self.old {
-          restorable = if self.old.is_finished
-              then before_fault self.old.line self.old.ending else self.old.restorable;
+          recall = if self.old.is_finished
+              then before_fault self.old.line self.old.ending else self.old.recall;
         } }
     {
         if self.is_finished {
-            hold_before_fault(true, &self.line, self.ending, &mut self.restorable);
+            hold_before_fault(true, &self.line, self.ending, &mut self.recall);
         }
     }
 
     // Finishes this line in place of that under edit.
     fn finish(&mut self, line: &[u8])
         requires { IsLine line.now }
-        ensures { self.new ≡ record self.old { line = line.now; is_finished = true; restorable = None } }
+        ensures { self.new ≡ record self.old { line = line.now; is_finished = true; recall = None } }
     {
         self.line.set(line);
         self.is_finished = true;
-        self.restorable.forget();
+        self.recall.forget();
     }
 
-    // Holds the parse of the text, which begins with the fields that are held. Behind a refused line control-H brings
+    // Holds the parse of the text, which begins with the fields that are held. After a refused line control-H brings
     // back the bytes before its faulty field.
     pub(crate) fn reparse<N: Names, R: Rules, L: Ledger>(
         &mut self,
@@ -184,20 +186,15 @@ impl Session {
         ensures parse { parse_held self.new
             ≡ parse_of (setting grammar.now (N.catalogue names.now) (R.meanings rules.now)) self.old.node
             (text_of self.old) }
-        ensures restorable { self.new.restorable
+        ensures recall { self.new.recall
             ≡ (if self.old.is_finished then before_fault self.old.line self.new.ending else None) }
         ensures same { self.new
-            ≡ record self.old { fields = self.new.fields; ending = self.new.ending; restorable = self.new.restorable } }
-        ensures steps { steps.new ≡ steps.old + cost_behind
+            ≡ record self.old { fields = self.new.fields; ending = self.new.ending; recall = self.new.recall } }
+        ensures steps { steps.new ≡ steps.old + cost_after
             (setting grammar.now (N.catalogue names.now) (R.meanings rules.now))
             self.old.node (text_of self.old) self.old.fields }
     {
-        self.parse_behind(grammar, names, rules, steps);
-        hold_before_fault(
-            self.is_finished,
-            &self.line,
-            self.ending,
-            &mut self.restorable,
-        );
+        self.parse_after(grammar, names, rules, steps);
+        hold_before_fault(self.is_finished, &self.line, self.ending, &mut self.recall);
     }
 }

@@ -3,13 +3,13 @@ ghost use Rattle.std.specs.Prelude.{◌≡◌, true, false, [], ◌++◌, None, 
 ghost use Rattle.cm_text.specs.Bytes.{is_text};
 ghost use Rattle.cm_text.specs.Text.{ends_in_hyphen};
 ghost use Rattle.cm_line.specs.Keys.{is_end};
-ghost use Rattle.cm_blocks.specs.Kept.{common};
+ghost use Rattle.cm_blocks.specs.KeptParse.{common};
 ghost use Rattle.cm_blocks.specs.Parse.{open_at};
 ghost use Rattle.cm_blocks.specs.Setting.{setting};
 ghost use Rattle.cm_recognise.specs.Insertion.{insertion};
 ghost use Rattle.cm_state.specs.Edit.{completion, edit};
 ghost use Rattle.cm_state.specs.Front.{front};
-ghost use Rattle.cm_state.specs.SessionState.{met_line, text_of};
+ghost use Rattle.cm_state.specs.SessionState.{line_before, text_of};
 
 use crate::Session;
 use crate::held::open_at;
@@ -23,17 +23,17 @@ use cm_text::common_len;
 // What a key has made of a line.
 #[derive(Drop)]
 pub(crate) struct Change {
-    // How many bytes the line before it and the text behind it begin with alike.
+    // How many bytes the line before it and the text after it begin with alike.
     pub(crate) front: usize,
     // Whether a key that completes rings.
-    pub(crate) rings: bool,
+    pub(crate) rings_bell: bool,
 }
 
 impl Session {
-    // A key behind a finished text meets an empty line, of which nothing is known.
+    // A key after a finished text meets an empty line, of which nothing is known.
     pub(crate) fn reopen(&mut self)
         ensures { self.new ≡ record self.old {
-          line = met_line self.old;
+          line = line_before self.old;
           is_finished = false;
           fields = if self.old.is_finished then [] else self.old.fields;
           ending = if self.old.is_finished then open_at self.old.node 0 else self.old.ending;
@@ -60,14 +60,15 @@ impl Session {
         requires text { class ≡ KeyClass.Text → is_text key ≡ true }
         requires join { class ≡ KeyClass.Join → ends_in_hyphen self.old.line ≡ true }
         ensures edited { self.new ≡ record self.old {
-          line = edit class key self.old.line self.old.restorable
+          line = edit class key self.old.line self.old.recall
               (completion (setting grammar.now (N.catalogue names.now) (R.meanings rules.now))
               class self.old.ending self.old.line).bytes;
           is_finished = is_end class;
-          restorable = None;
+          recall = None;
         } }
         ensures front { result.front ≡ common self.old.line (text_of self.new) }
-        ensures bell { result.rings ≡ (completion (setting grammar.now (N.catalogue names.now) (R.meanings rules.now))
+        ensures bell { result.rings_bell
+            ≡ (completion (setting grammar.now (N.catalogue names.now) (R.meanings rules.now))
             class self.old.ending self.old.line).bell }
     {
         match class {
@@ -75,7 +76,7 @@ impl Session {
             KeyClass::Part => self.insert(Mode::Part, grammar, names, rules),
             _ => Change {
                 front: self.edit_common(class, key),
-                rings: false,
+                rings_bell: false,
             },
         }
     }
@@ -92,33 +93,34 @@ impl Session {
         ensures inserted { self.new ≡ record self.old {
           line = self.old.line ++ (insertion (setting grammar.now (N.catalogue names.now) (R.meanings rules.now))
               self.old.ending self.old.line mode).bytes;
-          restorable = None;
+          recall = None;
         } }
         ensures front { result.front ≡ common self.old.line self.new.line }
-        ensures bell { result.rings ≡ (insertion (setting grammar.now (N.catalogue names.now) (R.meanings rules.now))
+        ensures bell { result.rings_bell
+            ≡ (insertion (setting grammar.now (N.catalogue names.now) (R.meanings rules.now))
             self.old.ending self.old.line mode).bell }
     {
         let front = self.line.bytes().len();
         let insertion = complete(grammar, self.ending, self.line.bytes(), names, rules, mode);
         self.line.append(insertion.bytes.as_slice());
-        self.restorable.forget();
+        self.recall.forget();
         Change {
             front,
-            rings: insertion.bell,
+            rings_bell: insertion.bell,
         }
     }
 
     // Edits the line by a key that completes nothing. The answer is how many bytes the line before it and the text
-    // behind it begin with alike.
+    // after it begin with alike.
     #[tactic(auto, using(crate::proofs::Fronts::front_stays))]
     fn edit_common(&mut self, class: KeyClass, key: u8) -> usize
         requires open { self.old.is_finished ≡ false }
         requires text { class ≡ KeyClass.Text → is_text key ≡ true }
         requires join { class ≡ KeyClass.Join → ends_in_hyphen self.old.line ≡ true }
         ensures edited { self.new ≡ record self.old {
-          line = edit class key self.old.line self.old.restorable [];
+          line = edit class key self.old.line self.old.recall [];
           is_finished = is_end class;
-          restorable = None;
+          recall = None;
         } }
         ensures common { result ≡ common self.old.line (text_of self.new) }
     {
@@ -129,9 +131,9 @@ impl Session {
 
     // The most bytes at the front of the line that a key of this class leaves.
     fn front(&self, class: KeyClass) -> usize
-        ensures { result ≡ front class self.now.line self.now.restorable }
+        ensures { result ≡ front class self.now.line self.now.recall }
     {
-        match (class, self.restorable.line()) {
+        match (class, self.recall.line()) {
             (KeyClass::Back, Some(line)) => common_len(self.line.bytes(), line.bytes()),
             (KeyClass::Join, _) => self.line.bytes().len().saturating_sub(1),
             _ => self.line.bytes().len(),
@@ -144,9 +146,9 @@ impl Session {
         requires text { class ≡ KeyClass.Text → is_text key ≡ true }
         requires join { class ≡ KeyClass.Join → ends_in_hyphen self.old.line ≡ true }
         ensures { self.new ≡ record self.old {
-          line = edit class key self.old.line self.old.restorable [];
+          line = edit class key self.old.line self.old.recall [];
           is_finished = is_end class;
-          restorable = None;
+          recall = None;
         } }
     {
         match class {
@@ -163,14 +165,14 @@ impl Session {
             KeyClass::End => self.is_finished = true,
             _ => {}
         }
-        self.restorable.forget();
+        self.recall.forget();
     }
 
     // Brings back the line that control-H brings back, where there is one.
     fn restore(&mut self)
-        ensures { self.new ≡ record self.old { line = unwrap_or self.old.restorable self.old.line } }
+        ensures { self.new ≡ record self.old { line = unwrap_or self.old.recall self.old.line } }
     {
-        if let Some(line) = self.restorable.line() {
+        if let Some(line) = self.recall.line() {
             self.line.set(line.bytes());
         }
     }

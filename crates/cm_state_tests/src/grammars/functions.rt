@@ -19,7 +19,7 @@ pub(crate) fn some_name(text: &str) -> Option<Name> {
 const PLAIN: &str =
     "number word quoted date text comma confirm user directory infile outfile anyfile";
 
-// A function: its name, and behind a space the number or the text that it reads.
+// A function: its name, and after a space the number or the text that it reads.
 pub(crate) fn function(text: &str) -> Option<Function> {
     let Some((kind, what)) = text.split_once(' ') else {
         return plain(text);

@@ -14,7 +14,7 @@ pub(crate) fn nodes(alloc: Global, text: &str, count: u16) -> Result<Vec<Node>, 
     Ok(nodes)
 }
 
-// What stands behind this number.
+// What stands after this number.
 fn line_of(text: &str, number: u16) -> Option<&str> {
     for line in text.lines() {
         let (front, blocks) = line.split_once(' ')?;
@@ -25,7 +25,7 @@ fn line_of(text: &str, number: u16) -> Option<&str> {
     None
 }
 
-// A node: its blocks, and behind ` = ` its default. One before whose blocks stands `raw` has no comments.
+// A node: its blocks, and after ` = ` its default. One before whose blocks stands `raw` has no comments.
 fn node(alloc: Global, text: &str) -> Result<Node, Fail> {
     let (blocks, default) = text.split_once(" = ").unwrap_or((text, ""));
     Ok(Node {
@@ -43,7 +43,7 @@ fn chain(alloc: Global, text: &str) -> Result<Vec<Block>, Fail> {
     Ok(blocks)
 }
 
-// A block: its function, behind ` > ` the node that follows, its role and its flags, and behind ` ? ` its help.
+// A block: its function, after ` > ` the node that follows, its role and its flags, and after ` ? ` its help.
 fn block(text: &str) -> Option<Block> {
     let (text, help) = text.split_once(" ? ").unwrap_or((text, ""));
     let (kind, rest) = text.split_once(" > ")?;

@@ -20,7 +20,7 @@ fn table(alloc: Global, text: &str) -> Result<Table, Fail> {
     Ok(Table::new(entries)?)
 }
 
-// An entry: its text, a colon where a value follows it, its code, the node that follows it, and its flag, and behind
+// An entry: its text, a colon where a value follows it, its code, the node that follows it, and its flag, and after
 // ` ? ` its help.
 fn entry(line: &str) -> Option<Entry> {
     let (line, help) = line.split_once(" ? ").unwrap_or((line, ""));

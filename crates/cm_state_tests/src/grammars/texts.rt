@@ -53,7 +53,7 @@ JOBNAME: 4 43
 NOTE: 5 44";
 
 // Nodes 0 to 8 read fields but files, 9 and 19 dates, 10 to 18 users, directories and files. Node 20 has a block of
-// each kind, 21 and 22 stand behind its guide words, 23 has words of its own, 28 has keywords with a help, and the
+// each kind, 21 and 22 stand after its guide words, 23 has words of its own, 28 has keywords with a help, and the
 // others end the line or lead there.
 pub(crate) const FIELD_NODES: &str = "\
 0 key 0 > 0
@@ -117,7 +117,7 @@ BY: 0 24 ? how many levels
 FAST 0 24 ? at once
 ONCE: 0 24";
 
-// A word, a number, a quoted text and the rest of the line, of two roles, each with a default; and behind a comma a
+// A word, a number, a quoted text and the rest of the line, of two roles, each with a default; and after a comma a
 // file that is there and a directory that may be new.
 pub(crate) const SAID_NODES: &str = "\
 0 comma > 4 / word > 1 Value = FIRST

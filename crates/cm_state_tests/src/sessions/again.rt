@@ -57,7 +57,7 @@ LOGOUT\r|@";
     tries(&rt, &rt, Question::Shown, exec(rt.alloc())?, cases)
 }
 
-// What a session holds, and what CR then comes to.
+// What a session holds, and the outcome of CR then.
 fn told<N: Names, L: Ledger>(
     rt: &impl Abort,
     alloc: Global,
@@ -112,7 +112,7 @@ fn answer<L: Ledger>(
     told(rt, alloc, &mut run, grammar, &Cabinet, steps)
 }
 
-// A case is what happens to the files, keys, and what is held then, with what CR comes to.
+// A case is what happens to the files, keys, and what is held then, with the outcome of CR.
 fn parts(case: &str) -> Option<(&str, &str, &str)> {
     let (files, rest) = case.split_once('|')?;
     let (keys, wanted) = rest.split_once('|')?;
@@ -134,7 +134,7 @@ pub(crate) fn try_case<L: Ledger>(
     Ok(())
 }
 
-// A field that names a file stands or falls with the catalogue, and the key behind it meets what is held then.
+// A field that names a file stands or falls with the catalogue, and the key after it meets what is held then.
 #[test]
 fn parses_again_where_the_catalogue_changed(rt: HostRuntime) -> Result<(), Fail> {
     let cases = "\

@@ -4,6 +4,7 @@ use crate::cases::repeat;
 use crate::grammars::exec;
 use std::test::Fail;
 
+// [key-turn]
 #[test]
 fn continues_lines(rt: HostRuntime) -> Result<(), Fail> {
     let cases = "\
@@ -78,6 +79,7 @@ b\"\r
     tries(&rt, &rt, Question::Keys, exec(rt.alloc())?, cases)
 }
 
+// [key-echo]
 #[test]
 fn edits_continued_lines(rt: HostRuntime) -> Result<(), Fail> {
     let cases = "\

@@ -13,7 +13,7 @@ use std::process::Abort;
 use std::sync::ledger::Ledger;
 use std::test::Fail;
 
-// What a line from a node on comes to, a bar, and its line of the log.
+// The outcome of a line from a node on, a bar, and its line of the log.
 fn answer<L: Ledger>(
     rt: &impl Abort,
     alloc: Global,
@@ -42,7 +42,7 @@ fn logged(rt: &impl Abort, alloc: Global, session: &Session) -> Result<MemSink, 
     Ok(log)
 }
 
-// A case is a node, a line, what it comes to, and its line of the log.
+// A case is a node, a line, its outcome, and its line of the log.
 pub(crate) fn try_case<L: Ledger>(
     rt: &impl Abort,
     alloc: Global,
@@ -57,6 +57,7 @@ pub(crate) fn try_case<L: Ledger>(
     Ok(())
 }
 
+// [whole-line]
 #[test]
 fn takes_whole_lines(rt: HostRuntime) -> Result<(), Fail> {
     let cases = "\
@@ -69,6 +70,7 @@ fn takes_whole_lines(rt: HostRuntime) -> Result<(), Fail> {
     tries(&rt, &rt, Question::Lines, exec(rt.alloc())?, cases)
 }
 
+// [log-line]
 #[test]
 fn logs_each_kind_of_value(rt: HostRuntime) -> Result<(), Fail> {
     let cases = "\

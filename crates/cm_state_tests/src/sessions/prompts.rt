@@ -2,7 +2,7 @@
 ghost use Rattle.std.specs.Prelude.{◌<◌, length};
 
 use super::question::{Question, tries};
-use super::run::run_behind;
+use super::run::run_after;
 use crate::cabinet::Cabinet;
 use crate::cases::repeat;
 use crate::grammars::exec;
@@ -15,7 +15,7 @@ use std::process::Abort;
 use std::sync::ledger::Ledger;
 use std::test::Fail;
 
-// The prompt of a name, with one mark behind it.
+// The prompt of a name, with one mark after it.
 fn prompt_of(rt: &impl Abort, name: &str) -> Prompt {
     assert!(rt; name.len() <= NAME_LIMIT, "{name} is too long");
     Prompt::Named(Label::of(&Name::new(name)), b'#')
@@ -39,12 +39,13 @@ pub(crate) fn try_case<L: Ledger>(
 {
     let (name, keys, wanted) = parts(case).ok_or("a case")?;
     let prompt = prompt_of(rt, name);
-    let run = run_behind(rt, alloc, prompt, keys, grammar, &Cabinet, &Judges, steps)?;
+    let run = run_after(rt, alloc, prompt, keys, grammar, &Cabinet, &Judges, steps)?;
     assert_eq!(rt; str::from_utf8(run.shown())?, wanted, "at {case}");
     Ok(())
 }
 
-// At the beginning, behind control-R and `?`, where a join byte is taken away, and behind a line that is over; with
+// [prompt]
+// At the beginning, after control-R and `?`, where a join byte is taken away, and after a line that is over; with
 // names of no byte, of one and of as many as a name has.
 #[test]
 fn shows_names_and_marks(rt: HostRuntime) -> Result<(), Fail> {

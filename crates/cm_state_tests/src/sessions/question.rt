@@ -10,9 +10,9 @@ use std::process::Abort;
 use std::sync::ledger::{Blank, Ledger};
 use std::test::Fail;
 
-// What the keys of a run come to, how many fields it holds, what whole lines come to, what their fields said, a field
-// of a role, how a run is shown again, what it holds where its text is parsed again, or what it shows behind a prompt
-// that is made at run time.
+// The outcome of the keys of a run, how many fields it holds, the outcome of whole lines, what their fields said, a
+// field of a role, how a run is shown again, what it holds where its text is parsed again, or what it shows after a
+// prompt that is made at run time.
 #[derive(Clone, Copy)]
 pub(crate) enum Question {
     Keys,

@@ -4,6 +4,7 @@ use crate::cases::repeat;
 use crate::grammars::exec;
 use std::test::Fail;
 
+// [key-parse]
 #[test]
 fn finishes_lines(rt: HostRuntime) -> Result<(), Fail> {
     let cases = "\
@@ -108,6 +109,7 @@ L\r\x08\x08|Edited|@L\r
     tries(&rt, &rt, Question::Keys, exec(rt.alloc())?, cases)
 }
 
+// [key-line]
 #[test]
 fn edits_lines(rt: HostRuntime) -> Result<(), Fail> {
     let cases = "\

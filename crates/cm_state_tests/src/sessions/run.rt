@@ -1,4 +1,4 @@
-// Keys that are taken one behind another, and what they come to.
+// Keys that are taken one after another, and their outcome.
 ghost use Rattle.std.specs.Prelude.{◌≡◌, ◌<◌, None, IfOk, length};
 ghost use Rattle.cm_blocks.specs.Fault.{grammar_fault};
 ghost use Rattle.cm_blocks.specs.Setting.{Setting, setting};
@@ -17,7 +17,7 @@ use std::process::Abort;
 use std::sync::ledger::Ledger;
 use std::test::Fail;
 
-// A session with what it has shown and logged, and what its last key came to.
+// A session with what it has shown and logged, and the outcome of its last key.
 #[derive(Drop)]
 pub(crate) struct Run {
     pub(crate) session: Session,
@@ -49,7 +49,7 @@ impl Run {
         assert_eq!(rt; begun, Put::Done);
     }
 
-    // Takes one key and logs it. Behind a line that is over it begins another.
+    // Takes one key and logs it. After a line that is over it begins another.
     fn key<N: Names, R: Rules, L: Ledger>(
         &mut self,
         rt: &impl Abort,
@@ -80,7 +80,7 @@ impl Run {
         self.shown.bytes()
     }
 
-    // What the last key came to, a bar, and what is shown.
+    // The outcome of the last key, a bar, and what is shown.
     fn answer(&self, alloc: Global) -> Result<String, Fail> {
         let shown = str::from_utf8(self.shown.bytes())?;
         Ok(format!(in alloc; "{:?}|{shown}", self.turn)?)
@@ -95,8 +95,8 @@ impl Run {
     }
 }
 
-// The run of some keys, one a character, behind this prompt.
-pub(crate) fn run_behind<N: Names, R: Rules, L: Ledger>(
+// The run of some keys, one a character, after this prompt.
+pub(crate) fn run_after<N: Names, R: Rules, L: Ledger>(
     rt: &impl Abort,
     alloc: Global,
     prompt: Prompt,
@@ -126,7 +126,7 @@ pub(crate) fn run_behind<N: Names, R: Rules, L: Ledger>(
     Ok(run)
 }
 
-// And behind `@`.
+// And after `@`.
 pub(crate) fn run_of<N: Names, R: Rules, L: Ledger>(
     rt: &impl Abort,
     alloc: Global,
@@ -140,7 +140,7 @@ pub(crate) fn run_of<N: Names, R: Rules, L: Ledger>(
     ensures { IfOk result
         (λ run. IsReady (setting grammar.now (N.catalogue names.now) (R.meanings rules.now)) run.session) }
 {
-    run_behind(rt, alloc, Prompt::Main, keys, grammar, names, rules, steps)
+    run_after(rt, alloc, Prompt::Main, keys, grammar, names, rules, steps)
 }
 
 // The EXEC's grammar.
@@ -152,14 +152,14 @@ pub(crate) fn exec_of(rt: &impl Abort, alloc: Global) -> Result<Grammar, Fail>
     Ok(grammar)
 }
 
-// The keys of a case, what they come to, and how the log ends.
+// The keys of a case, their outcome, and how the log ends.
 fn parts(case: &str) -> Option<(&str, &str, &str)> {
     let (keys, rest) = case.split_once('|')?;
     let (wanted, end) = rest.rsplit_once('|')?;
     Some((keys, wanted, end))
 }
 
-// What the last of the keys comes to, and what is shown. The log has to end so.
+// The outcome of the last of the keys, and what is shown. The log has to end so.
 fn answer_of<L: Ledger>(
     rt: &impl Abort,
     alloc: Global,
@@ -175,7 +175,7 @@ fn answer_of<L: Ledger>(
     run.answer(alloc)
 }
 
-// A case is keys, what the last comes to, what is shown, and how the log ends.
+// A case is keys, the outcome of the last, what is shown, and how the log ends.
 pub(crate) fn try_case<L: Ledger>(
     rt: &impl Abort,
     alloc: Global,

@@ -27,7 +27,7 @@ fn take<L: Ledger>(
     session.whole(0, line.bytes(), grammar, &Cabinet, &Judges, steps);
 }
 
-// What each field said, with a bar behind it.
+// What each field said, with a bar after it.
 fn all_said(alloc: Global, session: &Session, grammar: &Grammar) -> Result<String, Fail> {
     let mut all = String::new(alloc);
     for number in 0..session.held() {
@@ -104,6 +104,7 @@ pub(crate) fn try_role<L: Ledger>(
     Ok(())
 }
 
+// [field-text]
 // A value that is a part of the line is that part, and any other the field as it was typed. Of a field that was not
 // typed it is the default, and of a quoted one what stands between its quotes.
 #[test]

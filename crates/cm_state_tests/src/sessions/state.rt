@@ -84,13 +84,13 @@ fn finds_a_field_by_its_role(rt: HostRuntime) -> Result<(), Fail> {
     Ok(())
 }
 
-// What the last key came to, the ending, and the text.
+// The outcome of the last key, the ending, and the text.
 fn told(alloc: Global, run: &Run) -> Result<String, Fail> {
     let text = str::from_utf8(run.session.text())?;
     Ok(format!(in alloc; "{:?} {:?} {text}", run.turn, run.session.ending())?)
 }
 
-// What the run of INF VER comes to, and then CR, which a sink with room for one byte does not show.
+// The outcome of the run of INF VER, and then of CR, which a sink with room for one byte does not show.
 fn unshown<L: Ledger>(
     rt: &impl Abort,
     alloc: Global,

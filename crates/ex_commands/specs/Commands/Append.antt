@@ -1,4 +1,4 @@
--- APPEND: the bytes of files are put behind those of one file.
+-- APPEND: the bytes of files are put after those of one file.
 use Rattle.std.specs.Prelude.{ℕ}
 use Rattle.cm_blocks.specs.declared.function.Role.TheVariants as roles
 use Rattle.cm_state.specs.Roles.{field_of}

@@ -1,7 +1,7 @@
 -- EXPUNGE: the files of a directory that are marked as deleted are removed.
 use Rattle.std.specs.Prelude.{ℕ, List, ◌++◌, Option, unwrap_or}
 use Rattle.std.specs.Fmt.{decimal}
-use Rattle.cm_text.specs.Shown.{end_of_line}
+use Rattle.cm_text.specs.ScreenBytes.{end_of_line}
 use Rattle.cm_blocks.specs.declared.function.Role.TheVariants as roles
 use Rattle.cm_state.specs.Roles.{field_of}
 use Rattle.ex_store.specs.Rows.{pages_marked}

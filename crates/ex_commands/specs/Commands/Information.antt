@@ -2,7 +2,7 @@
 use Rattle.std.specs.Prelude.{ℕ, ◌==◌, nat_lt, Bool, ◌&&◌, ℤ, if◌then◌else◌, List, [], ◌∷◌, ◌++◌, length, Option, Some, None}
 use Rattle.std.specs.Fmt.{decimal}
 use Rattle.std.specs.List.{flat_map}
-use Rattle.cm_text.specs.Shown.{end_of_line}
+use Rattle.cm_text.specs.ScreenBytes.{end_of_line}
 use Rattle.cm_dates.specs.DayText.{day_text}
 use Rattle.cm_blocks.specs.declared.function.Role.TheVariants as roles
 use Rattle.cm_state.specs.Roles.{field_of}
@@ -74,12 +74,12 @@ unfoldable pub version_line : List ℕ
 version_line = version ++ end_of_line
 
 -- what is told about a topic
-abbrev pub told : ℕ → State → List ℕ
-told what state =
+abbrev pub topic_text : ℕ → State → List ℕ
+topic_text what state =
     if what == DIRECTORY_TOPIC then directory_lines state
     else (if what == LOGICAL_NAMES then flat_map definition_line state.logical
     else (if what == OUTPUT_REQUESTS then flat_map entry_line state.queue
     else (if what == VERSION then version_line else [])))
 
 abbrev pub tells : ℕ → State → Act
-tells what state = does (told what state) state
+tells what state = does (topic_text what state) state

@@ -1,6 +1,6 @@
 -- LOGOUT: the run ends.
 use Rattle.std.specs.Prelude.{ℕ, List, ◌++◌}
-use Rattle.cm_text.specs.Shown.{end_of_line}
+use Rattle.cm_text.specs.ScreenBytes.{end_of_line}
 use Rattle.ex_store.specs.State.{State}
 use Rattle.ex_commands.specs.declared.acted.Acted.TheVariants as answers
 use Rattle.ex_commands.specs.Effect.{Act, without_marked}

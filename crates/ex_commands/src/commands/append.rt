@@ -3,7 +3,7 @@ ghost use Rattle.std.specs.Prelude.{◌≡◌, true};
 ghost use Rattle.ex_store.specs.Plan.{IsOneFile, IsSource};
 ghost use Rattle.ex_commands.specs.Commands.Append.{append_of, appends};
 ghost use Rattle.ex_commands.specs.Outcome.{Outcome};
-ghost use Rattle.ex_commands.specs.Said.{IsReadable, line_of};
+ghost use Rattle.ex_commands.specs.NameParts.{IsReadable, line_of};
 
 use crate::fields::between;
 use crate::pairs::Origin;
@@ -26,7 +26,7 @@ pub(crate) fn read<N: Names>(session: &Session, grammar: &Grammar, names: &N) ->
     )
 }
 
-/// Puts the bytes of files behind those of one file.
+/// Puts the bytes of files after those of one file.
 pub(crate) fn act<S: Sink>(
     store: &mut Store,
     from: &Place,

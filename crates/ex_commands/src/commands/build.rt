@@ -6,7 +6,7 @@ ghost use Rattle.cm_files.specs.Catalogue.{is_directory_name};
 ghost use Rattle.ex_store.specs.declared.limits.TheConstants.{RETENTION_LIMIT};
 ghost use Rattle.ex_commands.specs.Commands.Build.{build_of, builds, retention_with};
 ghost use Rattle.ex_commands.specs.Outcome.{Outcome};
-ghost use Rattle.ex_commands.specs.Said.{IsReadable, IsSaidIn, line_of};
+ghost use Rattle.ex_commands.specs.NameParts.{IsReadable, IsSaidIn, line_of};
 
 use crate::fields::{count_in, directory_in, has_subs};
 use crate::pairs::Origin;
@@ -36,7 +36,7 @@ pub(crate) fn read<N: Names>(session: &Session, grammar: &Grammar, names: &N) ->
     )
 }
 
-/// How many generations are kept behind a subcommand of this code, with its value: those of the last one that says
+/// How many generations are kept after a subcommand of this code, with its value: those of the last one that says
 /// how many.
 pub(crate) fn retention_with(code: u16, said: Option<&Field>, retention: Option<u8>) -> Option<u8>
     requires { IsSaidIn (option_copied said) }

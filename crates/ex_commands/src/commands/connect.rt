@@ -2,7 +2,7 @@
 ghost use Rattle.std.specs.Prelude.{true, ◌≡◌};
 ghost use Rattle.ex_store.specs.State.{has_directory};
 ghost use Rattle.ex_commands.specs.Commands.Connect.{connect_of, connects};
-ghost use Rattle.ex_commands.specs.Said.{IsReadable, line_of};
+ghost use Rattle.ex_commands.specs.NameParts.{IsReadable, line_of};
 
 use crate::Command;
 use crate::fields::directory_in;

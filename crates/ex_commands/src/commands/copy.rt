@@ -6,7 +6,7 @@ ghost use Rattle.ex_store.specs.Plan.{IsSource, IsTarget};
 ghost use Rattle.ex_store.specs.State.{State};
 ghost use Rattle.ex_commands.specs.Commands.Copy.{begins, copies, copies_files, copy_of, is_token};
 ghost use Rattle.ex_commands.specs.Outcome.{Outcome};
-ghost use Rattle.ex_commands.specs.Said.{IsReadable, IsSaid, line_of};
+ghost use Rattle.ex_commands.specs.NameParts.{IsReadable, IsSaid, line_of};
 
 use crate::acts::refuse;
 use crate::fields::place_in;

@@ -10,7 +10,7 @@ ghost use Rattle.ex_commands.specs.Answer.{MayAct};
 ghost use Rattle.ex_commands.specs.Commands.Define.{define_of, defines, logical_by, logical_in, undefines};
 ghost use Rattle.ex_commands.specs.Line.{said_of};
 ghost use Rattle.ex_commands.specs.Outcome.{Outcome};
-ghost use Rattle.ex_commands.specs.Said.{IsLogical, IsLogicalIn, IsReadable, line_of};
+ghost use Rattle.ex_commands.specs.NameParts.{IsLogical, IsLogicalIn, IsReadable, line_of};
 
 use crate::acts::refuse;
 use crate::fields::directory_in;

@@ -10,7 +10,7 @@ ghost use Rattle.ex_commands.specs.Commands.Directory.{day_with, directory_of, e
 ghost use Rattle.ex_commands.specs.Line.{place_in};
 ghost use Rattle.ex_commands.specs.Outcome.{Outcome};
 ghost use Rattle.ex_commands.specs.Replies.{is_within};
-ghost use Rattle.ex_commands.specs.Said.{IsReadable, line_of};
+ghost use Rattle.ex_commands.specs.NameParts.{IsReadable, line_of};
 
 use crate::acts::refuse;
 use crate::fields::{day_by, has_subs, place_in};
@@ -69,7 +69,7 @@ pub(crate) fn read<N: Names>(session: &Session, grammar: &Grammar, names: &N) ->
     }
 }
 
-/// A day behind a subcommand with this value, where it is the one that sets the day: that of the last one counts.
+/// A day after a subcommand with this value, where it is the one that sets the day: that of the last one counts.
 pub(crate) fn day_with(here: bool, said: Option<&Field>, day: Option<i32>) -> Option<i32>
     ensures { result ≡ day_with here (option_copied said.entry) day }
 {

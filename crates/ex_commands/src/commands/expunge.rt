@@ -5,7 +5,7 @@ ghost use Rattle.ex_store.specs.State.{has_directory};
 ghost use Rattle.ex_commands.specs.Answer.{IsThere};
 ghost use Rattle.ex_commands.specs.Commands.Expunge.{expunge_of, expunges, expunges_or_connected, freed_line};
 ghost use Rattle.ex_commands.specs.Outcome.{Outcome};
-ghost use Rattle.ex_commands.specs.Said.{IsReadable, line_of};
+ghost use Rattle.ex_commands.specs.NameParts.{IsReadable, line_of};
 
 use crate::acts::connected;
 use crate::fields::directory_in;

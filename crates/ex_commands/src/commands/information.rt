@@ -6,10 +6,10 @@ ghost use Rattle.std.specs.List.{flat_map, list_all};
 ghost use Rattle.cm_blocks.specs.declared.function.Role.TheVariants as roles;
 ghost use Rattle.cm_io.specs.Writer.{Writes};
 ghost use Rattle.cm_state.specs.Roles.{field_of};
-ghost use Rattle.ex_store.specs.Lent.{definition_of_view, full_name};
+ghost use Rattle.ex_store.specs.Views.{definition_of_view, full_name};
 ghost use Rattle.ex_store.specs.WellFormed.{is_day};
 ghost use Rattle.ex_commands.specs.declared.command.Command.TheVariants as commands;
-ghost use Rattle.ex_commands.specs.Commands.Information.{after_text, definition_line, directory_line, directory_lines, entry_line, is_shown, note_text, pages_line, quoted_byte, retention_line, tells, told, version_line, wishes_text};
+ghost use Rattle.ex_commands.specs.Commands.Information.{after_text, definition_line, directory_line, directory_lines, entry_line, is_shown, note_text, pages_line, quoted_byte, retention_line, tells, topic_text, version_line, wishes_text};
 ghost use Rattle.ex_commands.specs.Line.{code_in};
 ghost use Rattle.ex_commands.specs.Outcome.{Outcome};
 
@@ -205,8 +205,8 @@ fn put_version<S: Sink>(out: &mut Writer<'_, S>)
 }
 
 // Puts what is told about a topic.
-fn put_told<S: Sink>(store: &Store, what: u16, out: &mut Writer<'_, S>)
-    ensures { Writes S.Sink out.old out.new (told what store.now.state) }
+fn put_topic_text<S: Sink>(store: &Store, what: u16, out: &mut Writer<'_, S>)
+    ensures { Writes S.Sink out.old out.new (topic_text what store.now.state) }
 {
     match what {
         DIRECTORY_TOPIC => put_directory_lines(store, out),
@@ -221,6 +221,6 @@ fn put_told<S: Sink>(store: &Store, what: u16, out: &mut Writer<'_, S>)
 pub(crate) fn act<S: Sink>(store: &Store, what: u16, out: &mut Writer<'_, S>) -> Acted
     ensures { Outcome S.Sink out.old out.new (tells what store.now.state) false store.now.state store.now.state result }
 {
-    put_told(store, what, out);
+    put_topic_text(store, what, out);
     Acted::Ok
 }

@@ -8,7 +8,7 @@ ghost use Rattle.ex_store.specs.Plan.{IsSource};
 ghost use Rattle.ex_commands.specs.Answer.{MayAsk};
 ghost use Rattle.ex_commands.specs.Commands.Print.{after_in, copies_in, form_by, form_in, job_in, note_in, number_by, print_of, prints, quoted_by, request_of, word_by};
 ghost use Rattle.ex_commands.specs.Outcome.{Outcome};
-ghost use Rattle.ex_commands.specs.Said.{IsReadable, IsSaid, line_of};
+ghost use Rattle.ex_commands.specs.NameParts.{IsReadable, IsSaid, line_of};
 
 use crate::acts::refuse;
 use crate::fields::{day_by, last_at, place_in};

@@ -3,7 +3,7 @@ ghost use Rattle.std.specs.Prelude.{◌≡◌, true};
 ghost use Rattle.ex_store.specs.Plan.{IsSource, IsTarget};
 ghost use Rattle.ex_commands.specs.Commands.Rename.{rename_of, renames};
 ghost use Rattle.ex_commands.specs.Outcome.{Outcome};
-ghost use Rattle.ex_commands.specs.Said.{IsReadable, line_of};
+ghost use Rattle.ex_commands.specs.NameParts.{IsReadable, line_of};
 
 use crate::fields::between;
 use crate::pairs::Origin;

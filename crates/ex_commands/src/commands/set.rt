@@ -3,7 +3,7 @@ ghost use Rattle.std.specs.Prelude.{false, ◌≡◌, ◌≤◌};
 ghost use Rattle.ex_store.specs.declared.limits.TheConstants.{RETENTION_LIMIT};
 ghost use Rattle.ex_commands.specs.Commands.Set.{set_of, sets};
 ghost use Rattle.ex_commands.specs.Outcome.{Outcome};
-ghost use Rattle.ex_commands.specs.Said.{IsReadable, line_of};
+ghost use Rattle.ex_commands.specs.NameParts.{IsReadable, line_of};
 
 use crate::fields::{count_in, place_in};
 use crate::lines::{Lines, put_lines};

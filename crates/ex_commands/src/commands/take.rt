@@ -2,7 +2,7 @@
 ghost use Rattle.std.specs.Prelude.{◌≡◌, ◌≤◌, length};
 ghost use Rattle.ex_generations.specs.declared.file.TheConstants.{FILE_LIMIT};
 ghost use Rattle.ex_commands.specs.Commands.Take.{bytes_of, take_of};
-ghost use Rattle.ex_commands.specs.Said.{IsReadable, line_of};
+ghost use Rattle.ex_commands.specs.NameParts.{IsReadable, line_of};
 
 use crate::Command;
 use crate::fields::place_in;

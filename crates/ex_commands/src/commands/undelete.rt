@@ -2,7 +2,7 @@
 ghost use Rattle.std.specs.Prelude.{false, ◌≡◌};
 ghost use Rattle.ex_commands.specs.Commands.Undelete.{undelete_of, undeletes};
 ghost use Rattle.ex_commands.specs.Outcome.{Outcome};
-ghost use Rattle.ex_commands.specs.Said.{IsReadable, line_of};
+ghost use Rattle.ex_commands.specs.NameParts.{IsReadable, line_of};
 
 use crate::fields::place_in;
 use crate::lines::{Lines, put_lines};

@@ -51,7 +51,7 @@ pub(super) fn put_numbers(list: &mut String, gens: &Gens) -> Result<(), AllocErr
     Ok(())
 }
 
-// How many generations a file keeps, when it was written, and behind a slash when it was last read.
+// How many generations a file keeps, when it was written, and after a slash when it was last read.
 fn put_stamp(list: &mut String, file: &File) -> Result<(), AllocError> {
     let keep = file.keep;
     let moment = file.moment;

@@ -1,4 +1,4 @@
-// What is done with the generations of a file, as a text: the generations that there are first, a minus behind each
+// What is done with the generations of a file, as a text: the generations that there are first, a minus after each
 // that is marked as deleted, and then the steps.
 
 use super::files::{file, put_all, put_numbers, put_whole};
@@ -37,7 +37,7 @@ fn touch(rt: &impl Abort, gens: &mut Gens, generation: u32, moment: &str) -> Res
     gens.touch(generation, moment.parse().expect(rt, "a moment"))
 }
 
-// Adds an empty file, and marks it where a minus stands behind its generation.
+// Adds an empty file, and marks it where a minus stands after its generation.
 fn add_marked(rt: &(impl Abort + AllocGlobal), gens: &mut Gens, text: &str) {
     let generation = text
         .trim_end_matches('-')

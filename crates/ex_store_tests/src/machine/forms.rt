@@ -88,7 +88,7 @@ fn is_target(to: &Place, parts: &Parts<'_>) -> bool
     parts.has_directory(to.directory.as_str()) && name && kind && generation
 }
 
-// Whether bytes can be put behind the one file of a place.
+// Whether bytes can be put after the one file of a place.
 fn is_one_file(to: &Place, parts: &Parts<'_>) -> bool
     ensures { result ≡ true → IsOneFile to.now parts.now.directories }
 {

@@ -3,7 +3,7 @@
 use ex_store::{Full, Place, Ready, RowView, Store};
 use std::alloc::AllocError;
 
-// A space, behind what was listed before.
+// A space, after what was listed before.
 fn put_space(list: &mut String, is_first: &mut bool) -> Result<(), AllocError> {
     if *is_first {
         *is_first = false;

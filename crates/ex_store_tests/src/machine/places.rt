@@ -69,7 +69,7 @@ fn place_with(rt: &impl Abort, text: &str, flags: Flags) -> Place {
     }
 }
 
-/// The files of a specification: behind `each:` all generations where none is given, and behind `deleted:` those that
+/// The files of a specification: after `each:` all generations where none is given, and after `deleted:` those that
 /// are marked as deleted.
 pub(super) fn place(rt: &impl Abort, text: &str) -> Place {
     match text.split_once(':') {

@@ -128,29 +128,29 @@ fn tells(rt: &(impl Abort + AllocGlobal), store: &mut Store, case: &str) {
     is_told(rt, &told, wanted, case);
 }
 
-/// Each line tells what is wanted of it, one behind the other.
+/// Each line tells what is wanted of it, one after the other.
 pub(crate) fn in_turn(rt: &(impl Abort + AllocGlobal), store: &mut Store, cases: &str) {
     for case in cases.lines() {
         tells(rt, store, case);
     }
 }
 
-/// A new store, behind some steps.
-pub(crate) fn store_behind(rt: &(impl Abort + AllocGlobal), steps: &str) -> Store {
+/// A new store, after some steps.
+pub(crate) fn store_after(rt: &(impl Abort + AllocGlobal), steps: &str) -> Store {
     let mut store = Store::new(rt.alloc()).expect(rt, "memory");
     told(rt, &mut store, steps).expect(rt, "memory");
     store
 }
 
-fn tells_behind(rt: &(impl Abort + AllocGlobal), steps: &str, case: &str) {
-    let mut store = store_behind(rt, steps);
+fn tells_after(rt: &(impl Abort + AllocGlobal), steps: &str, case: &str) {
+    let mut store = store_after(rt, steps);
     tells(rt, &mut store, case);
 }
 
-/// Each line tells what is wanted of it, with a new store behind some steps.
-pub(crate) fn each_behind(rt: &(impl Abort + AllocGlobal), steps: &str, cases: &str) {
+/// Each line tells what is wanted of it, with a new store after some steps.
+pub(crate) fn each_after(rt: &(impl Abort + AllocGlobal), steps: &str, cases: &str) {
     for case in cases.lines() {
-        tells_behind(rt, steps, case);
+        tells_after(rt, steps, case);
     }
 }
 

@@ -1,10 +1,10 @@
-// Bytes that are put behind those of a file.
+// Bytes that are put after those of a file.
 
-use crate::machine::steps::each_behind;
+use crate::machine::steps::each_after;
 
 #[test]
-fn one_generation_is_put_behind(rt: HostRuntime) {
-    each_behind(
+fn one_generation_is_put_after(rt: HostRuntime) {
+    each_after(
         &rt,
         "build OPERATOR 0; files A.T A.T A.T A.T B.T; mark A.T.2; mark A.T.4",
         "\
@@ -23,7 +23,7 @@ append B.T C.T.7; names -> B.T.1=>C.T.7; A.T.1 A.T.2- A.T.3 A.T.4- B.T.1 C.T.7",
 
 #[test]
 fn the_bytes_are_those_of_the_start(rt: HostRuntime) {
-    each_behind(
+    each_after(
         &rt,
         "files A.T B.T",
         "\
@@ -36,7 +36,7 @@ append each:*.T B.T.-1; contents -> A.T.1=>B.T.2 B.T.1=>B.T.2; A.T.1@10=A.T B.T.
 
 #[test]
 fn each_source_is_read_and_not_the_target(rt: HostRuntime) {
-    each_behind(
+    each_after(
         &rt,
         "build OPERATOR 1; files A.T B.T; keep A.T 7; touch A.T 50; build OPERATOR 3",
         "\
@@ -51,7 +51,7 @@ append B.T A.T 18446744073709551615; stamps -> B.T.1=>A.T.1; A.T.1:7/4102444799/
 
 #[test]
 fn the_moment_is_at_most_the_last_one(rt: HostRuntime) {
-    each_behind(
+    each_after(
         &rt,
         "files A.T B.T",
         "\

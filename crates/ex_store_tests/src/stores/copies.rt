@@ -1,16 +1,16 @@
 // Files that are copied.
 
-use crate::machine::steps::{each_behind, in_turn, store_behind};
+use crate::machine::steps::{each_after, in_turn, store_after};
 
 #[test]
 fn a_copy_to_its_own_name_is_the_next(rt: HostRuntime) {
-    each_behind(
+    each_after(
         &rt,
         "build OPERATOR 0; files A.TXT",
         "\
 copy A.TXT.1 A.TXT; contents -> A.TXT.1=>A.TXT.2; A.TXT.1@10=A.TXT A.TXT.2@99=A.TXT",
     );
-    each_behind(
+    each_after(
         &rt,
         "build OPERATOR 1; files A.TXT",
         "\
@@ -18,7 +18,7 @@ copy A.TXT.1 A.TXT; contents -> A.TXT.1=>A.TXT.2; A.TXT.1-@10=A.TXT A.TXT.2@99=A
 copy A.TXT.1 *.*; contents -> A.TXT.1=>A.TXT.2; A.TXT.1-@10=A.TXT A.TXT.2@99=A.TXT
 copy A.TXT.1 <OPERATOR>; contents -> A.TXT.1=>A.TXT.2; A.TXT.1-@10=A.TXT A.TXT.2@99=A.TXT",
     );
-    each_behind(
+    each_after(
         &rt,
         "build OPERATOR 2; files A.TXT",
         "\
@@ -26,9 +26,10 @@ copy A.TXT.1 A.TXT.-1; contents -> A.TXT.1=>A.TXT.2; A.TXT.1@10=A.TXT A.TXT.2@99
     );
 }
 
+// [plan]
 #[test]
 fn several_are_copied_in_their_order(rt: HostRuntime) {
-    each_behind(
+    each_after(
         &rt,
         "build OPERATOR 0; files A.FOR A.FOR B.FOR B.TXT",
         "\
@@ -44,7 +45,7 @@ copy B.* *.*.9; names -> B.FOR.1=>B.FOR.9 B.TXT.1=>B.TXT.9; A.FOR.1 A.FOR.2 B.FO
 
 #[test]
 fn each_source_is_read(rt: HostRuntime) {
-    each_behind(
+    each_after(
         &rt,
         "build OPERATOR 0; files A.T B.T B.T; mark B.T.1",
         "\
@@ -60,7 +61,7 @@ touch A.T 5; copy A.T C.T; stamps -> 1; A.T.1=>C.T.1; A.T.1:0/10/99 B.T.1-:0/20/
 
 #[test]
 fn what_is_refused_is_not_read(rt: HostRuntime) {
-    each_behind(
+    each_after(
         &rt,
         "build OPERATOR 0; files A.T B.T; touch B.T 5",
         "\
@@ -72,7 +73,7 @@ append A.T B.T.9; stamps -> A.T.1=>B.T.9; A.T.1:0/10/99 B.T.1:0/20/5 B.T.9:0/99/
 
 #[test]
 fn a_copy_of_a_marked_file_is_unmarked(rt: HostRuntime) {
-    let mut store = store_behind(&rt, "files A.T A.T; build SMITH");
+    let mut store = store_after(&rt, "files A.T A.T; build SMITH");
     in_turn(
         &rt,
         &mut store,

@@ -1,11 +1,11 @@
 // Logical names that are defined.
 
-use crate::machine::steps::{in_turn, store_behind};
+use crate::machine::steps::{in_turn, store_after};
 use std::alloc::{AllocError, Global};
 
 #[test]
 fn a_name_stands_for_the_last_directory(rt: HostRuntime) {
-    let mut store = store_behind(&rt, "build SMITH; build ZULU");
+    let mut store = store_after(&rt, "build SMITH; build ZULU");
     in_turn(
         &rt,
         &mut store,
@@ -24,7 +24,7 @@ undefine Home; logicals -> Ok(()); 3 AB-1=2 ABC=2 HOMES=0",
 
 #[test]
 fn a_text_that_no_name_can_be_stands_for_nothing(rt: HostRuntime) {
-    let mut store = store_behind(&rt, "define HOME OPERATOR");
+    let mut store = store_after(&rt, "define HOME OPERATOR");
     in_turn(
         &rt,
         &mut store,
@@ -49,7 +49,7 @@ fn defines(alloc: Global, count: u32) -> Result<String, AllocError> {
 #[test]
 fn there_are_at_most_64_logical_names(rt: HostRuntime) {
     let steps = defines(rt.alloc(), 63).expect(&rt, "memory");
-    let mut store = store_behind(&rt, steps.as_str());
+    let mut store = store_after(&rt, steps.as_str());
     in_turn(
         &rt,
         &mut store,

@@ -1,10 +1,10 @@
 // Directories that are made, connected and changed.
 
-use crate::machine::steps::{each_behind, in_turn, store_behind};
+use crate::machine::steps::{each_after, in_turn, store_after};
 
 #[test]
 fn a_directory_keeps_so_many(rt: HostRuntime) {
-    let mut store = store_behind(&rt, "build ZULU");
+    let mut store = store_after(&rt, "build ZULU");
     in_turn(
         &rt,
         &mut store,
@@ -19,7 +19,7 @@ build ZULU; retention -> none; 3 0 63",
 
 #[test]
 fn a_directory_is_told_by_its_name(rt: HostRuntime) {
-    each_behind(
+    each_after(
         &rt,
         "build OPERATOR 0; build SMITH 7; build SMITH.A; write A.T 2560; write A.T 2561; write B.T 0; mark A.T.1; \
 put <SMITH.A>C X",
@@ -32,7 +32,7 @@ expunge OPERATOR; pages OPERATOR -> 1; 2",
 
 #[test]
 fn one_directory_is_connected(rt: HostRuntime) {
-    let mut store = store_behind(&rt, "files A.T; build A.B; build SMITH");
+    let mut store = store_after(&rt, "files A.T; build A.B; build SMITH");
     in_turn(
         &rt,
         &mut store,

@@ -1,6 +1,6 @@
 // Stores that are written.
 
-use crate::machine::steps::{in_turn, store_behind};
+use crate::machine::steps::{in_turn, store_after};
 use ex_store::Store;
 
 #[test]
@@ -14,8 +14,8 @@ fn a_new_store_is_written(rt: HostRuntime) {
 }
 
 #[test]
-fn the_files_stand_behind_their_lines(rt: HostRuntime) {
-    let mut store = store_behind(
+fn the_files_stand_after_their_lines(rt: HostRuntime) {
+    let mut store = store_after(
         &rt,
         "build SMITH; put <SMITH>A.TXT one\ntwo\n 7; write <SMITH>A.TXT 0 8; connect SMITH",
     );

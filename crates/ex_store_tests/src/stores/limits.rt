@@ -1,6 +1,6 @@
 // The limits, and one more.
 
-use crate::machine::steps::{in_turn, store_behind, store_of};
+use crate::machine::steps::{in_turn, store_after, store_of};
 use std::alloc::{AllocError, Global};
 
 // The steps that make so many directories.
@@ -16,7 +16,7 @@ fn builds(alloc: Global, count: u32) -> Result<String, AllocError> {
 #[test]
 fn there_are_at_most_64_directories(rt: HostRuntime) {
     let steps = builds(rt.alloc(), 63).expect(&rt, "memory");
-    let mut store = store_behind(&rt, steps.as_str());
+    let mut store = store_after(&rt, steps.as_str());
     assert_eq!(rt; store.parts().directories(), 64);
     in_turn(
         &rt,
@@ -59,7 +59,7 @@ rename A.T.7 B.T; count -> A.T.7=>B.T.2; 4096",
 
 #[test]
 fn a_file_has_at_most_65536_bytes(rt: HostRuntime) {
-    let mut store = store_behind(&rt, "build OPERATOR 0");
+    let mut store = store_after(&rt, "build OPERATOR 0");
     in_turn(
         &rt,
         &mut store,
@@ -90,7 +90,7 @@ fn full(alloc: Global, last: &str) -> Result<String, AllocError> {
 #[test]
 fn all_files_have_at_most_8388608_bytes(rt: HostRuntime) {
     let steps = full(rt.alloc(), "copy each:A.T A.T").expect(&rt, "memory");
-    let mut store = store_behind(&rt, steps.as_str());
+    let mut store = store_after(&rt, steps.as_str());
     in_turn(
         &rt,
         &mut store,
@@ -107,9 +107,9 @@ write B.T 1 -> StoreSize",
 }
 
 #[test]
-fn all_bytes_count_where_some_are_put_behind(rt: HostRuntime) {
+fn all_bytes_count_where_some_are_put_after(rt: HostRuntime) {
     let steps = full(rt.alloc(), "copy each:A.T.* B.T").expect(&rt, "memory");
-    let mut store = store_behind(&rt, steps.as_str());
+    let mut store = store_after(&rt, steps.as_str());
     in_turn(
         &rt,
         &mut store,

@@ -1,10 +1,10 @@
 // Files that are deleted, undeleted and expunged.
 
-use crate::machine::steps::{each_behind, in_turn, store_behind};
+use crate::machine::steps::{each_after, in_turn, store_after};
 
 #[test]
 fn what_a_place_means_is_marked(rt: HostRuntime) {
-    each_behind(
+    each_after(
         &rt,
         "build OPERATOR 0; files A.T A.T B.T",
         "\
@@ -21,7 +21,7 @@ mark each:<OPERATOR>; names -> 0; A.T.1 A.T.2 B.T.1",
 
 #[test]
 fn a_mark_is_cleared(rt: HostRuntime) {
-    each_behind(
+    each_after(
         &rt,
         "files A.T A.T A.T B.T; mark B.T",
         "\
@@ -34,7 +34,7 @@ unmark deleted:*.*.-2; names -> 2; A.T.1 A.T.2- A.T.3 B.T.1",
 
 #[test]
 fn pages_are_rounded_up(rt: HostRuntime) {
-    each_behind(
+    each_after(
         &rt,
         "build OPERATOR 0; files A.T B.T",
         "\
@@ -46,9 +46,10 @@ write C.T 65536; mark C.T; expunge OPERATOR; names -> C.T.1=>C.T.1; 1; 26; A.T.1
     );
 }
 
+// [expunge]
 #[test]
 fn one_directory_is_expunged(rt: HostRuntime) {
-    let mut store = store_behind(&rt, "files A.T A.T A.T B.T B.T; build SMITH");
+    let mut store = store_after(&rt, "files A.T A.T A.T B.T B.T; build SMITH");
     in_turn(
         &rt,
         &mut store,
@@ -61,7 +62,7 @@ expunge OPERATOR -> 0",
 
 #[test]
 fn the_next_that_a_place_means(rt: HostRuntime) {
-    let mut store = store_behind(&rt, "files A.T A.T B.T C.T C.T");
+    let mut store = store_after(&rt, "files A.T A.T B.T C.T C.T");
     in_turn(
         &rt,
         &mut store,
@@ -80,7 +81,7 @@ select *.T.-1 live 0 -> None",
 
 #[test]
 fn the_files_that_a_place_means(rt: HostRuntime) {
-    let mut store = store_behind(&rt, "files A.T A.T B.T C.T C.T; build SMITH");
+    let mut store = store_after(&rt, "files A.T A.T B.T C.T C.T; build SMITH");
     in_turn(
         &rt,
         &mut store,

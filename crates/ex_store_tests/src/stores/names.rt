@@ -1,6 +1,6 @@
 // The store as the catalogue that file specifications are looked up in, and its print queue.
 
-use crate::machine::steps::{each_behind, in_turn, store_behind, store_of};
+use crate::machine::steps::{each_after, in_turn, store_after, store_of};
 use ex_store::{FORMS, Store, form_text};
 use std::process::Abort;
 
@@ -15,7 +15,7 @@ Q SMITH A.TXT.7 2 WIDE - JOB-1 by noon|Q SMITH B.TXT.7 63 WIDE 47481 JOB-1 by no
 
 #[test]
 fn a_store_tells_its_files(rt: HostRuntime) {
-    let mut store = store_behind(
+    let mut store = store_after(
         &rt,
         "files B.T.7 A.T A.T; build ALPHA; build SMITH; put <SMITH>X XYZ 5",
     );
@@ -33,7 +33,7 @@ file 2 0 -> X..1@5=XYZ",
 
 #[test]
 fn a_store_tells_what_a_file_holds(rt: HostRuntime) {
-    let mut store = store_behind(&rt, "files B.T A.T; build SMITH; put <SMITH>X XYZ 5");
+    let mut store = store_after(&rt, "files B.T A.T; build SMITH; put <SMITH>X XYZ 5");
     in_turn(
         &rt,
         &mut store,
@@ -95,7 +95,7 @@ job: \"JOB-1\", note: \"by noon\" }",
 
 #[test]
 fn a_new_store_has_neither(rt: HostRuntime) {
-    each_behind(
+    each_after(
         &rt,
         "names",
         "logicals; requests; undefine SYS -> 0; 0; Err(NoDefinition)",

@@ -1,10 +1,10 @@
 // Files and directories whose names differ in their last byte.
 
-use crate::machine::steps::each_behind;
+use crate::machine::steps::each_after;
 
 #[test]
 fn a_file_is_not_taken_for_its_neighbour(rt: HostRuntime) {
-    each_behind(
+    each_after(
         &rt,
         "build OPERATOR 0; build SMITH 0; files AB.T AA.T ABA.T AB.S AB.TT A.T",
         "\
@@ -27,7 +27,7 @@ ABA.T.1=><SMITH>ABA.T.1; AB.S.1 AB.TT.1; A.T.1 AA.T.1 AB.T.1 ABA.T.1",
 
 #[test]
 fn a_directory_is_not_taken_for_its_neighbour(rt: HostRuntime) {
-    each_behind(
+    each_after(
         &rt,
         "build LAB; build LA; build LABS; files A.T",
         "\

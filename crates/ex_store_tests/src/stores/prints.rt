@@ -1,11 +1,11 @@
 // Files that are queued for printing.
 
-use crate::machine::steps::{each_behind, in_turn, store_behind, store_of};
+use crate::machine::steps::{each_after, in_turn, store_after, store_of};
 use std::alloc::{AllocError, Global};
 
 #[test]
 fn files_are_queued_in_their_order(rt: HostRuntime) {
-    let mut store = store_behind(
+    let mut store = store_after(
         &rt,
         "build OPERATOR 0; build SMITH; files B.X A.T A.T; put <SMITH>C.X.7 X",
     );
@@ -24,7 +24,7 @@ entries; count -> 5; 4",
 
 #[test]
 fn a_mark_is_asked_for(rt: HostRuntime) {
-    each_behind(
+    each_after(
         &rt,
         "build OPERATOR 0; files A.T A.T B.X; mark A.T.1",
         "\

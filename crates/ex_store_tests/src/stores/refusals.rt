@@ -1,10 +1,10 @@
 // Plans that are refused, and what they leave.
 
-use crate::machine::steps::{each_behind, in_turn, store_behind};
+use crate::machine::steps::{each_after, in_turn, store_after};
 
 #[test]
 fn a_file_that_is_written_wants_a_name(rt: HostRuntime) {
-    let mut store = store_behind(&rt, "build OPERATOR 0");
+    let mut store = store_after(&rt, "build OPERATOR 0");
     in_turn(
         &rt,
         &mut store,
@@ -22,7 +22,7 @@ names -> A..1 A..2",
 
 #[test]
 fn a_generation_that_is_there_is_not_written(rt: HostRuntime) {
-    let mut store = store_behind(&rt, "files A.FOR.1 A.FOR.2");
+    let mut store = store_after(&rt, "files A.FOR.1 A.FOR.2");
     in_turn(
         &rt,
         &mut store,
@@ -38,7 +38,7 @@ write A.FOR.3 0; names -> A.FOR.3=>A.FOR.3; A.FOR.1- A.FOR.2- A.FOR.3- A.FOR.131
 
 #[test]
 fn a_copy_is_whole_or_not_at_all(rt: HostRuntime) {
-    each_behind(
+    each_after(
         &rt,
         "build OPERATOR 0; files A.FOR.1 B.FOR.1 C.OLD.131071",
         "\

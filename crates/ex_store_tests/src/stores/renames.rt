@@ -1,10 +1,10 @@
 // Files that are given other names.
 
-use crate::machine::steps::{each_behind, in_turn, store_behind};
+use crate::machine::steps::{each_after, in_turn, store_after};
 
 #[test]
 fn what_is_refused_leaves_the_files_as_they_were(rt: HostRuntime) {
-    let mut store = store_behind(
+    let mut store = store_after(
         &rt,
         "build OPERATOR 0; files A.FOR.1 B.FOR.1 C.FOR.1 C.OLD.131071",
     );
@@ -23,7 +23,7 @@ contents -> A.FOR.1@10=A.FOR.1 B.FOR.1@20=B.FOR.1 C.FOR.1@30=C.FOR.1 C.OLD.13107
 
 #[test]
 fn each_keeps_its_moment_and_its_bytes(rt: HostRuntime) {
-    let mut store = store_behind(
+    let mut store = store_after(
         &rt,
         "build OPERATOR 0; files A.FOR.1 A.FOR.2 B.FOR.1 A.OLD.4",
     );
@@ -38,7 +38,7 @@ contents -> A.OLD.4@40=A.OLD.4 A.OLD.5@10=A.FOR.1 A.OLD.6@20=A.FOR.2 B.OLD.1@30=
 
 #[test]
 fn the_source_is_taken_out_first(rt: HostRuntime) {
-    each_behind(
+    each_after(
         &rt,
         "files A.T.1 A.T.2",
         "\
@@ -54,7 +54,7 @@ rename A.T.1 B.T; names -> none; A.T.1- A.T.2",
 
 #[test]
 fn a_file_takes_what_it_keeps_and_its_reading_along(rt: HostRuntime) {
-    each_behind(
+    each_after(
         &rt,
         "build OPERATOR 0; files A.T B.T B.T; keep A.T 1; touch A.T 77; build SMITH 2",
         "\
@@ -66,7 +66,7 @@ rename each:B.T.* A.T; stamps -> B.T.1=>A.T.2 B.T.2=>A.T.3; A.T.1:1/10/77 A.T.2:
 
 #[test]
 fn what_it_keeps_counts_in_another_directory(rt: HostRuntime) {
-    let mut store = store_behind(
+    let mut store = store_after(
         &rt,
         "build OPERATOR 0; files A.T.3 A.T.8 B.T.1; build SMITH",
     );

@@ -1,10 +1,10 @@
 // Which generations are marked when one is added.
 
-use crate::machine::steps::{each_behind, in_turn, store_behind};
+use crate::machine::steps::{each_after, in_turn, store_after};
 
 #[test]
 fn all_generations_are_kept(rt: HostRuntime) {
-    let mut store = store_behind(&rt, "build OPERATOR 0; files A.T A.T A.T");
+    let mut store = store_after(&rt, "build OPERATOR 0; files A.T A.T A.T");
     in_turn(
         &rt,
         &mut store,
@@ -17,7 +17,7 @@ write A.T 0; names -> A.T.5=>A.T.5; A.T.1 A.T.2- A.T.3 A.T.4 A.T.5",
 
 #[test]
 fn one_generation_is_kept(rt: HostRuntime) {
-    let mut store = store_behind(&rt, "build OPERATOR 1; files A.T A.T A.T");
+    let mut store = store_after(&rt, "build OPERATOR 1; files A.T A.T A.T");
     in_turn(
         &rt,
         &mut store,
@@ -30,7 +30,7 @@ write A.T 0; names -> A.T.5=>A.T.5; A.T.1- A.T.2- A.T.3- A.T.4- A.T.5",
 
 #[test]
 fn three_generations_are_kept(rt: HostRuntime) {
-    let mut store = store_behind(&rt, "build OPERATOR 3; files A.T A.T A.T");
+    let mut store = store_after(&rt, "build OPERATOR 3; files A.T A.T A.T");
     in_turn(
         &rt,
         &mut store,
@@ -43,7 +43,7 @@ write A.T 0; names -> A.T.5=>A.T.5; A.T.1- A.T.2- A.T.3 A.T.4 A.T.5",
 
 #[test]
 fn no_other_file_is_marked(rt: HostRuntime) {
-    let mut store = store_behind(
+    let mut store = store_after(
         &rt,
         "build OPERATOR 0; files A.S A.S A.T A.T B.T B.T; build SMITH 0; keep A.T 1",
     );
@@ -62,7 +62,7 @@ names; names SMITH -> A.S.1 A.S.2 A.T.1- A.T.2- A.T.3 B.T.1 B.T.2; A.T.1 A.T.2",
 
 #[test]
 fn a_name_keeps_what_its_highest_keeps(rt: HostRuntime) {
-    each_behind(
+    each_after(
         &rt,
         "build OPERATOR 1; files A.T A.T; build OPERATOR 2",
         "\
@@ -78,7 +78,7 @@ write A.T.1 0; write B.T 0; stamps -> FileExists; B.T.1=>B.T.1; A.T.1-:1/10/- A.
 
 #[test]
 fn a_copy_keeps_what_its_new_name_keeps(rt: HostRuntime) {
-    each_behind(
+    each_after(
         &rt,
         "build OPERATOR 1; files A.T B.T; build OPERATOR 2",
         "\
@@ -92,7 +92,7 @@ keep A.T 0; copy A.T A.T; stamps -> 1; A.T.1=>A.T.2; A.T.1:0/10/99 A.T.2:0/99/- 
 
 #[test]
 fn what_a_file_keeps_marks_none(rt: HostRuntime) {
-    each_behind(
+    each_after(
         &rt,
         "build OPERATOR 0; files A.T A.T A.T B.T; mark A.T.1",
         "\
@@ -105,22 +105,22 @@ keep C.T 1; stamps -> 0; A.T.1-:0/10/- A.T.2:0/20/- A.T.3:0/30/- B.T.1:0/40/-",
 
 #[test]
 fn a_lower_generation_may_be_marked_at_once(rt: HostRuntime) {
-    each_behind(
+    each_after(
         &rt,
         "build OPERATOR 1; files A.T.5 A.T.3 A.T.4",
         "names -> A.T.3- A.T.4- A.T.5",
     );
-    each_behind(
+    each_after(
         &rt,
         "build OPERATOR 2; files A.T.5 A.T.3 A.T.4",
         "names -> A.T.3- A.T.4 A.T.5",
     );
-    each_behind(
+    each_after(
         &rt,
         "build OPERATOR 2; files A.T.3 A.T.5 A.T.1",
         "names -> A.T.1- A.T.3 A.T.5",
     );
-    each_behind(
+    each_after(
         &rt,
         "build OPERATOR 63; files A.T.5 A.T.3 A.T.4",
         "names -> A.T.3 A.T.4 A.T.5",

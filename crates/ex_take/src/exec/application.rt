@@ -24,13 +24,13 @@ impl Exec {
 }
 
 impl Application for Exec {
-    ghost use Rattle.ex_take.specs.Exec.{exec_meaning};
+    ghost use Rattle.ex_take.specs.Exec.{exec_semantics};
 
     type Rules = ExecRules;
 
     type Names = Store;
 
-    ghost means = { exec_meaning };
+    ghost means = { exec_semantics };
 
     fn names(&self) -> &Store {
         self.interpreter.store()

@@ -1,11 +1,11 @@
 // What follows an act: files are closed, and the next line is looked at.
 ghost use Rattle.std.specs.Prelude.{◌≡◌, ◌≤◌, [], ◌∷◌, if◌then◌else◌};
 ghost use Rattle.cm_io.specs.Fault.{PutCause};
-ghost use Rattle.cm_io.specs.Told.{Adds};
+ghost use Rattle.cm_io.specs.Contents.{Adds};
 ghost use Rattle.cm_state.specs.Echo.{refusal};
 ghost use Rattle.cm_run.specs.Cause.{ObeyCause};
 ghost use Rattle.cm_run.specs.Obey.{Obeys, stage};
-ghost use Rattle.ex_take.specs.Exec.{behind_end, closed, closes, end_deeds, follows, innermost, is_over, line_fault, looks_ahead, next_fault, open_files, refuses, settles, stopped};
+ghost use Rattle.ex_take.specs.Exec.{after_end, closed, closes, end_effects, follows, innermost, is_over, line_fault, looks_ahead, next_fault, open_files, refuses, settles, stopped};
 
 use super::{Exec, MOST_FILES};
 use crate::command_file::CommandFile;
@@ -18,7 +18,7 @@ use cm_state::put_refusal;
 use ex_commands::Acted;
 
 impl Exec {
-    // Closes all files behind a refusal, and drops the command that waits.
+    // Closes all files after a refusal, and drops the command that waits.
     fn stop_taking(&mut self, code: Code)
         ensures { self.new ≡ stopped code self.old }
     {
@@ -31,7 +31,7 @@ impl Exec {
 
     /// Refuses a line: shows why, drops the command that waits, and closes the files that are open.
     pub fn refuse_line<S: Sink>(&mut self, code: Code, screen: &mut S) -> Result<(), Stop>
-        ensures obeys { Obeys (stage (S.told screen.old) self.old) (stage (S.told screen.new) self.new)
+        ensures obeys { Obeys (stage (S.contents screen.old) self.old) (stage (S.contents screen.new) self.new)
             (refuses code self.old ∷ []) result }
         ensures later { S.faults screen.old ≤ S.faults screen.new }
         ensures cause { ObeyCause (S.faults screen.old) (S.faults screen.new) result }
@@ -73,7 +73,7 @@ impl Exec {
 
     // Looks at the next line: one that is none is refused.
     fn look_ahead<S: Sink>(&mut self, screen: &mut S) -> Result<(), Stop>
-        ensures obeys { Obeys (stage (S.told screen.old) self.old) (stage (S.told screen.new) self.new)
+        ensures obeys { Obeys (stage (S.contents screen.old) self.old) (stage (S.contents screen.new) self.new)
             (looks_ahead self.old) result }
         ensures later { S.faults screen.old ≤ S.faults screen.new }
         ensures cause { ObeyCause (S.faults screen.old) (S.faults screen.new) result }
@@ -94,7 +94,7 @@ impl Exec {
 
     // Closes the files that are at their end, and looks at the next line.
     fn close_files<S: Sink>(&mut self, screen: &mut S) -> Result<(), Stop>
-        ensures obeys { Obeys (stage (S.told screen.old) self.old) (stage (S.told screen.new) self.new)
+        ensures obeys { Obeys (stage (S.contents screen.old) self.old) (stage (S.contents screen.new) self.new)
             (closes self.old) result }
         ensures later { S.faults screen.old ≤ S.faults screen.new }
         ensures cause { ObeyCause (S.faults screen.old) (S.faults screen.new) result }
@@ -103,10 +103,10 @@ impl Exec {
         self.look_ahead(screen)
     }
 
-    // Goes on behind a command that waited, and has acted at the end of its file.
+    // Goes on after a command that waited, and has acted at the end of its file.
     fn follow_end<S: Sink>(&mut self, answer: Acted, screen: &mut S) -> Result<(), Stop>
-        ensures obeys { Obeys (stage (S.told screen.old) self.old) (stage (S.told screen.new) self.new)
-            (behind_end self.old answer) result }
+        ensures obeys { Obeys (stage (S.contents screen.old) self.old) (stage (S.contents screen.new) self.new)
+            (after_end self.old answer) result }
         ensures later { S.faults screen.old ≤ S.faults screen.new }
         ensures cause { ObeyCause (S.faults screen.old) (S.faults screen.new) result }
     {
@@ -119,10 +119,10 @@ impl Exec {
         }
     }
 
-    // At the end of a file a command that waits for subcommands acts, as behind an empty line of them.
+    // At the end of a file a command that waits for subcommands acts, as after an empty line of them.
     fn end_file<S: Sink>(&mut self, screen: &mut S) -> Result<(), Stop>
-        ensures obeys { Obeys (stage (S.told screen.old) self.old) (stage (S.told screen.new) self.new)
-            (end_deeds self.old self.old.interpreter.pending) result }
+        ensures obeys { Obeys (stage (S.contents screen.old) self.old) (stage (S.contents screen.new) self.new)
+            (end_effects self.old self.old.interpreter.pending) result }
         ensures later { S.faults screen.old ≤ S.faults screen.new }
         ensures cause { ObeyCause (S.faults screen.old) (S.faults screen.new) result }
     {
@@ -137,9 +137,9 @@ impl Exec {
         }
     }
 
-    // Goes on behind an act: where a file is at its end, it ends, and else the next line is looked at.
+    // Goes on after an act: where a file is at its end, it ends, and else the next line is looked at.
     pub(super) fn settle<S: Sink>(&mut self, screen: &mut S) -> Result<(), Stop>
-        ensures obeys { Obeys (stage (S.told screen.old) self.old) (stage (S.told screen.new) self.new)
+        ensures obeys { Obeys (stage (S.contents screen.old) self.old) (stage (S.contents screen.new) self.new)
             (settles self.old) result }
         ensures later { S.faults screen.old ≤ S.faults screen.new }
         ensures cause { ObeyCause (S.faults screen.old) (S.faults screen.new) result }
@@ -151,9 +151,9 @@ impl Exec {
         }
     }
 
-    // Goes on behind an act that was answered so, and went to its end.
+    // Goes on after an act that was answered so, and went to its end.
     pub(super) fn follow<S: Sink>(&mut self, answer: Acted, screen: &mut S) -> Result<(), Stop>
-        ensures obeys { Obeys (stage (S.told screen.old) self.old) (stage (S.told screen.new) self.new)
+        ensures obeys { Obeys (stage (S.contents screen.old) self.old) (stage (S.contents screen.new) self.new)
             (follows self.old answer) result }
         ensures later { S.faults screen.old ≤ S.faults screen.new }
         ensures cause { ObeyCause (S.faults screen.old) (S.faults screen.new) result }
@@ -171,13 +171,13 @@ impl Exec {
 
 // Shows why a line is refused.
 fn show_refusal<S: Sink>(code: Code, screen: &mut S) -> Put
-    ensures bytes { Adds (S.told screen.old) (S.told screen.new) (refusal code) result }
+    ensures bytes { Adds (S.contents screen.old) (S.contents screen.new) (refusal code) result }
     ensures later { S.faults screen.old ≤ S.faults screen.new }
     ensures cause { PutCause (S.faults screen.old) (S.faults screen.new) result }
 {
     let mut out = Writer::new(screen);
     put_refusal(code, &mut out);
-    out.went()
+    out.outcome()
 }
 
 // How many lines were taken, for the typed line whose files are open; where none is, none.

@@ -3,7 +3,7 @@ ghost use Rattle.std.specs.Prelude.{◌≡◌, None};
 ghost use Rattle.cm_blocks.specs.Parse.{IsParse};
 ghost use Rattle.cm_blocks.specs.Setting.{setting};
 ghost use Rattle.cm_blocks.specs.declared.field.Ending.TheVariants as ending;
-ghost use Rattle.cm_run.specs.Meaning.{IsLineAt};
+ghost use Rattle.cm_run.specs.Semantics.{IsLineAt};
 ghost use Rattle.cm_state.specs.SessionState.{text_of};
 ghost use Rattle.ex_commands.specs.Answer.{MayAct};
 ghost use Rattle.ex_grammar.specs.ExecRules.{exec_meanings};

@@ -4,7 +4,7 @@ ghost use Rattle.cm_blocks.specs.Parse.{IsParse};
 ghost use Rattle.cm_blocks.specs.Setting.{setting};
 ghost use Rattle.cm_blocks.specs.declared.field.Ending.TheVariants as ending;
 ghost use Rattle.cm_run.specs.Cause.{ObeyCause};
-ghost use Rattle.cm_run.specs.Meaning.{IsLineAt};
+ghost use Rattle.cm_run.specs.Semantics.{IsLineAt};
 ghost use Rattle.cm_run.specs.Obey.{Obeys, stage};
 ghost use Rattle.cm_state.specs.SessionState.{text_of};
 ghost use Rattle.ex_commands.specs.Answer.{MayAct};
@@ -15,7 +15,7 @@ ghost use Rattle.ex_store.specs.Plan.{IsSource};
 ghost use Rattle.ex_store.specs.State.{catalogue_of};
 ghost use Rattle.ex_take.specs.Interpreter.{mode_of};
 ghost use Rattle.ex_take.specs.InterpreterState.{InterpreterState};
-ghost use Rattle.ex_take.specs.Exec.{acts, command_deeds, line_deeds, passed, pending_deeds, take_deeds, typing_deeds};
+ghost use Rattle.ex_take.specs.Exec.{acts, command_effects, line_effects, passed, pending_effects, take_effects, typing_effects};
 
 use super::{Exec, MOST_FILES};
 use crate::Pending;
@@ -30,12 +30,12 @@ use ex_commands::{Command, file_bytes};
 use ex_store::Place;
 
 impl Exec {
-    // Has the EXEC do a command, and goes on behind it.
+    // Has the EXEC do a command, and goes on after it.
     fn act<S: Sink>(&mut self, command: Command, moment: u64, screen: &mut S) -> Result<(), Stop>
         requires may_act { MayAct command self.old.interpreter.state }
         requires line { self.old.interpreter.typing ≡ None }
         requires free { self.old.interpreter.pending ≡ None }
-        ensures obeys { Obeys (stage (S.told screen.old) self.old) (stage (S.told screen.new) self.new)
+        ensures obeys { Obeys (stage (S.contents screen.old) self.old) (stage (S.contents screen.new) self.new)
             (acts self.old moment command) result }
         ensures later { S.faults screen.old ≤ S.faults screen.new }
         ensures cause { ObeyCause (S.faults screen.old) (S.faults screen.new) result }
@@ -51,8 +51,8 @@ impl Exec {
     /// Opens a command file, unless too many are open.
     pub(crate) fn take<S: Sink>(&mut self, file: &Place, screen: &mut S) -> Result<(), Stop>
         requires source { IsSource file.now self.old.interpreter.state }
-        ensures obeys { Obeys (stage (S.told screen.old) self.old) (stage (S.told screen.new) self.new)
-            (take_deeds self.old file.now) result }
+        ensures obeys { Obeys (stage (S.contents screen.old) self.old) (stage (S.contents screen.new) self.new)
+            (take_effects self.old file.now) result }
         ensures later { S.faults screen.old ≤ S.faults screen.new }
         ensures cause { ObeyCause (S.faults screen.old) (S.faults screen.new) result }
     {
@@ -73,8 +73,8 @@ impl Exec {
         requires may_act { MayAct (Command.CopyTty to) self.old.interpreter.state }
         requires line { self.old.interpreter.typing ≡ None }
         requires free { self.old.interpreter.pending ≡ None }
-        ensures obeys { Obeys (stage (S.told screen.old) self.old) (stage (S.told screen.new) self.new)
-            (typing_deeds self.old moment to) result }
+        ensures obeys { Obeys (stage (S.contents screen.old) self.old) (stage (S.contents screen.new) self.new)
+            (typing_effects self.old moment to) result }
         ensures later { S.faults screen.old ≤ S.faults screen.new }
         ensures cause { ObeyCause (S.faults screen.old) (S.faults screen.new) result }
     {
@@ -95,8 +95,8 @@ impl Exec {
         requires may_act { MayAct command self.old.interpreter.state }
         requires line { self.old.interpreter.typing ≡ None }
         requires free { self.old.interpreter.pending ≡ None }
-        ensures obeys { Obeys (stage (S.told screen.old) self.old) (stage (S.told screen.new) self.new)
-            (command_deeds self.old moment command) result }
+        ensures obeys { Obeys (stage (S.contents screen.old) self.old) (stage (S.contents screen.new) self.new)
+            (command_effects self.old moment command) result }
         ensures later { S.faults screen.old ≤ S.faults screen.new }
         ensures cause { ObeyCause (S.faults screen.old) (S.faults screen.new) result }
     {
@@ -107,7 +107,7 @@ impl Exec {
         }
     }
 
-    // Adds a line to the command that waits for subcommands, and goes on behind it.
+    // Adds a line to the command that waits for subcommands, and goes on after it.
     fn add_subcommands<S: Sink>(
         &mut self,
         pending: Pending,
@@ -120,8 +120,8 @@ impl Exec {
         requires line { self.old.interpreter.typing ≡ None }
         requires free { self.old.interpreter.pending ≡ None }
         ensures obeys { (one : InterpreterState)
-            → Obeys (stage (S.told screen.old) (record self.old { interpreter = one }))
-            (stage (S.told screen.new) self.new) (pending_deeds self.old session.now pending) result }
+            → Obeys (stage (S.contents screen.old) (record self.old { interpreter = one }))
+            (stage (S.contents screen.new) self.new) (pending_effects self.old session.now pending) result }
         ensures later { S.faults screen.old ≤ S.faults screen.new }
         ensures cause { ObeyCause (S.faults screen.old) (S.faults screen.new) result }
     {
@@ -133,7 +133,7 @@ impl Exec {
         }
     }
 
-    // Does what a line comes to whose parse is done.
+    // Does what a line says whose parse is done.
     #[tactic(auto, using(crate::proofs::PendingCommands::main_line, crate::proofs::PendingCommands::subcommand_line))]
     pub(super) fn obey_done<S: Sink>(
         &mut self,
@@ -146,8 +146,8 @@ impl Exec {
         requires line { IsLineAt (mode_of self.old.interpreter) session.now.node }
         requires parse { IsParse (setting exec_graph (catalogue_of self.old.interpreter.state) exec_meanings)
             session.now.node (text_of session.now) session.now.fields ending.Done }
-        ensures obeys { Obeys (stage (S.told screen.old) self.old) (stage (S.told screen.new) self.new)
-            (line_deeds self.old session.now moment) result }
+        ensures obeys { Obeys (stage (S.contents screen.old) self.old) (stage (S.contents screen.new) self.new)
+            (line_effects self.old session.now moment) result }
         ensures later { S.faults screen.old ≤ S.faults screen.new }
         ensures cause { ObeyCause (S.faults screen.old) (S.faults screen.new) result }
     {

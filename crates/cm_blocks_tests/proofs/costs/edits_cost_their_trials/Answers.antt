@@ -5,7 +5,7 @@ use Rattle.cm_tables.specs.Look.{look}
 use Rattle.cm_fields.specs.Run.{word_of}
 use Rattle.cm_blocks.specs.Chain.{chain_at}
 use Rattle.cm_blocks.specs.Keyword.{entry_position}
-use Rattle.cm_blocks.specs.Kept.{cost, kept}
+use Rattle.cm_blocks.specs.KeptParse.{cost, kept}
 use Rattle.cm_blocks.specs.Parse.{parse_of}
 use Rattle.cm_blocks.specs.Trial.{trial}
 use Rattle.cm_blocks_tests.proofs.costs.edits_cost_their_trials.Goals as goal

@@ -1,7 +1,7 @@
 use Rattle.std.proofs.Common.{◌≡◌, drop}
 use Rattle.std.specs.List.{list_any}
 use Rattle.cm_files.specs.Catalogue.{rows_of}
-use Rattle.cm_files.specs.Passing.{may_pass}
+use Rattle.cm_files.specs.RowTrials.{may_pass}
 use Rattle.cm_files.specs.Selection.{selects, wanted}
 use Rattle.cm_files.proofs.selection.selects.Given as goal
 

@@ -1,7 +1,7 @@
 -- The entries from a position on are left to be put.
 use Rattle.std.proofs.Common.{◌-◌, length}
 use Rattle.cm_io.proofs.Texts.{Left}
-use Rattle.cm_tables.specs.Listed.{listed_from}
+use Rattle.cm_tables.specs.Listing.{listed_from}
 use Rattle.cm_help.specs.Phrase.{entry_lines}
 use Rattle.cm_help.proofs.phrase.put_entries.Given as goal
 

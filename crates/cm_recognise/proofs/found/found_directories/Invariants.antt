@@ -1,7 +1,7 @@
--- The directories from here on, behind what is found so far, say what all of them do.
+-- The directories from here on, after what is found so far, say what all of them do.
 use Rattle.std.proofs.Common.{◌≡◌, drop}
 use Rattle.std.specs.List.{filter_map}
-use Rattle.cm_recognise.specs.Found.{IsFound, directory_like, found_directories, gather, with_text}
+use Rattle.cm_recognise.specs.Candidates.{IsFound, directory_like, found_directories, gather, with_text}
 use Rattle.cm_recognise.proofs.found.found_directories.Given as goal
 
 abbrev pub invariant-loop-i : goal.invariant-loop-i

@@ -1,8 +1,8 @@
--- The rows from here on, behind what is found so far, say what all of them do.
+-- The rows from here on, after what is found so far, say what all of them do.
 use Rattle.std.proofs.Common.{◌≡◌, drop}
 use Rattle.std.specs.List.{filter_map}
 use Rattle.cm_files.specs.Catalogue.{rows_of}
-use Rattle.cm_recognise.specs.Found.{IsFound, found_names, gather, name_like, with_text}
+use Rattle.cm_recognise.specs.Candidates.{IsFound, found_names, gather, name_like, with_text}
 use Rattle.cm_recognise.proofs.found.found_names.Given as goal
 
 abbrev pub invariant-loop-i : goal.invariant-loop-i

@@ -1,8 +1,8 @@
--- The rows from here on, behind the highest so far, give the highest of all of them.
+-- The rows from here on, after the highest so far, give the highest of all of them.
 use Rattle.std.proofs.Common.{◌≡◌, drop}
 use Rattle.std.specs.List.{filter_map}
 use Rattle.cm_files.specs.Catalogue.{rows_of}
-use Rattle.cm_recognise.specs.Found.{gather, generation_like, greater, highest}
+use Rattle.cm_recognise.specs.Candidates.{gather, generation_like, greater, highest}
 use Rattle.cm_recognise.proofs.found.highest.Given as goal
 
 abbrev pub invariant-loop-i : goal.invariant-loop-i

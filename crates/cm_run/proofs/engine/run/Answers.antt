@@ -1,12 +1,12 @@
 use Rattle.std.proofs.Common.{◌≡◌, true, false, refl, ap, sym, ◌∙◌, arith}
 use Rattle.cm_lists.proofs.Numbers.{le_add_more}
 use Rattle.cm_lists.proofs.Pieces.{count_of_cons}
-use Rattle.cm_run.specs.Cause.{Counts, ObeyCause, StrokeCause}
+use Rattle.cm_run.specs.Cause.{Counts, KeystrokeCause, ObeyCause}
 use Rattle.cm_run.specs.Trace.{run_state}
 use Rattle.cm_run.proofs.FirstPrompt.{run_begins, run_unbegun}
-use Rattle.cm_run.proofs.Causes.{acts_cause, asked_last, asked_more, count_cut, count_end, count_limit, count_over, count_prompt, count_unread, counts_same, run_limit, run_quiet, run_unread, stroke_run}
+use Rattle.cm_run.proofs.Causes.{acts_cause, asked_last, asked_more, count_cut, count_end, count_limit, count_over, count_prompt, count_unread, counts_same, keystroke_run, run_limit, run_quiet, run_unread}
 use Rattle.cm_run.proofs.MomentLaws.{gone_first, gone_on, runs_to}
-use Rattle.cm_run.proofs.Progress.{went_cut, went_first, went_on, went_sound}
+use Rattle.cm_run.proofs.Progress.{so_far_first, so_far_on, went_cut, went_sound}
 use Rattle.cm_run.proofs.Course.{run_ends, run_fails, run_goes_on, run_halts, run_over, run_stops}
 use Rattle.cm_run.proofs.engine.run.Goals as goal
 
@@ -16,7 +16,7 @@ returns-in-Err-clause-traces g c = λ keys_tell clock_tells.
 
 pub returns-in-Err-clause-cause : goal.returns-in-Err-clause-cause
 returns-in-Err-clause-cause g c =
-    stroke_run _ _ _ _ refl (acts_cause _ _ _ _ _ _ _ c.in-Err.ensures.cause refl refl)
+    keystroke_run _ _ _ _ refl (acts_cause _ _ _ _ _ _ _ c.in-Err.ensures.cause refl refl)
 
 pub returns-in-Err-clause-count : goal.returns-in-Err-clause-count
 returns-in-Err-clause-count g c = λ keys_tell.
@@ -33,7 +33,7 @@ loop-turn-init g c = record {
   screen = c.in-Ok.ensures.cause;
   log = refl;
   keys = refl;
-  went = λ keys_tell clock_tells. went_first g.A.Application.means c.args.app.now _ _ _ _ c.new-session.ensures.session c.in-Ok.ensures.session;
+  so_far = λ keys_tell clock_tells. so_far_first g.A.Application.means c.args.app.now _ _ _ _ c.new-session.ensures.session c.in-Ok.ensures.session;
   gone = λ keys_tell. gone_first g.A.Application.means c.args.app.now _ _ _ c.new-session.ensures.session c.in-Ok.ensures.session;
   quiet = λ none. refl;
 }
@@ -94,11 +94,11 @@ returns-in-Err-handle_key-clause-count g c = λ keys_tell.
 
 pub returns-in-Err-handle_key-clause-cause : goal.returns-in-Err-handle_key-clause-cause
 returns-in-Err-handle_key-clause-cause g c =
-    stroke_run _ _ _ _ (counts_same _ _ _ _ _ _ c.loop-turn.invariant.screen c.loop-turn.invariant.log (c.in-Byte.ensures.cause ∙ c.loop-turn.invariant.keys))
+    keystroke_run _ _ _ _ (counts_same _ _ _ _ _ _ c.loop-turn.invariant.screen c.loop-turn.invariant.log (c.in-Byte.ensures.cause ∙ c.loop-turn.invariant.keys))
     (c.in-Err-handle_key.ensures.cause (g.K.Source.faults c.get.new.self))
 
 pub loop-turn-preserved : goal.loop-turn-preserved
-unfolding StrokeCause
+unfolding KeystrokeCause
 loop-turn-preserved g c = record {
   ahead = λ keys_tell clock_tells.
       run_goes_on g.A.Application.means c.args.logging (run_state c.loop-turn.session c.loop-turn.app (g.C.Clock.left c.loop-turn.clock)) _ _ _ _ _ _ _ _ _ _ _ _ _ c.in-Byte.key
@@ -112,8 +112,8 @@ loop-turn-preserved g c = record {
   screen = ap (λ (n : Counts). n.screen) (c.in-Ok-handle_key.ensures.cause 0) ∙ c.loop-turn.invariant.screen;
   log = ap (λ (n : Counts). n.log) (c.in-Ok-handle_key.ensures.cause 0) ∙ c.loop-turn.invariant.log;
   keys = c.in-Byte.ensures.cause ∙ c.loop-turn.invariant.keys;
-  went = λ keys_tell clock_tells.
-      went_on g.A.Application.means _ _ _ _ (c.loop-turn.invariant.went keys_tell clock_tells) _ c.in-Byte.key
+  so_far = λ keys_tell clock_tells.
+      so_far_on g.A.Application.means _ _ _ _ (c.loop-turn.invariant.so_far keys_tell clock_tells) _ c.in-Byte.key
       (run_state c.handle_key.new.session c.handle_key.new.app (g.C.Clock.left c.handle_key.new.clock))
       (sym c.has_ended.ensures ∙ c.if-has_ended.false) (c.in-Byte.ensures.bytes keys_tell) c.meets_sound.ensures
       (c.in-Ok-handle_key.ensures.next clock_tells refl);
@@ -155,34 +155,34 @@ returns-else-has_ended-2-clause-count g c = λ keys_tell.
 pub returns-in-Err-clause-sound : goal.returns-in-Err-clause-sound
 returns-in-Err-clause-sound g c = λ keys_tell clock_tells.
     went_sound g.A.Application.means _ _ _ _
-    (went_first g.A.Application.means c.args.app.now (g.C.Clock.left c.args.clock.now) (g.K.Source.left c.args.keys.now) _ _ refl refl) _ refl
+    (so_far_first g.A.Application.means c.args.app.now (g.C.Clock.left c.args.clock.now) (g.K.Source.left c.args.keys.now) _ _ refl refl) _ refl
 
 pub returns-then-has_ended-clause-sound : goal.returns-then-has_ended-clause-sound
 returns-then-has_ended-clause-sound g c = λ keys_tell clock_tells.
-    went_sound g.A.Application.means _ _ _ _ (c.loop-turn.invariant.went keys_tell clock_tells) _ refl
+    went_sound g.A.Application.means _ _ _ _ (c.loop-turn.invariant.so_far keys_tell clock_tells) _ refl
 
 pub returns-in-End-clause-sound : goal.returns-in-End-clause-sound
 returns-in-End-clause-sound g c = λ keys_tell clock_tells.
-    went_sound g.A.Application.means _ _ _ _ (c.loop-turn.invariant.went keys_tell clock_tells) _
+    went_sound g.A.Application.means _ _ _ _ (c.loop-turn.invariant.so_far keys_tell clock_tells) _
     ((c.in-End.ensures.bytes keys_tell).1 ∙ sym (c.in-End.ensures.bytes keys_tell).0)
 
 pub returns-in-Failed-clause-sound : goal.returns-in-Failed-clause-sound
 returns-in-Failed-clause-sound g c = λ keys_tell clock_tells.
-    went_sound g.A.Application.means _ _ _ _ (c.loop-turn.invariant.went keys_tell clock_tells) _ (c.in-Failed.ensures.bytes keys_tell)
+    went_sound g.A.Application.means _ _ _ _ (c.loop-turn.invariant.so_far keys_tell clock_tells) _ (c.in-Failed.ensures.bytes keys_tell)
 
 pub returns-in-Err-handle_key-clause-sound : goal.returns-in-Err-handle_key-clause-sound
 returns-in-Err-handle_key-clause-sound g c = λ keys_tell clock_tells.
     went_sound g.A.Application.means _ _ _ _
-    (went_cut g.A.Application.means _ _ _ _ (c.loop-turn.invariant.went keys_tell clock_tells) _ c.in-Byte.key
+    (went_cut g.A.Application.means _ _ _ _ (c.loop-turn.invariant.so_far keys_tell clock_tells) _ c.in-Byte.key
     (sym c.has_ended.ensures ∙ c.if-has_ended.false) (c.in-Byte.ensures.bytes keys_tell) c.meets_sound.ensures) _ refl
 
 pub returns-then-has_ended-2-clause-sound : goal.returns-then-has_ended-2-clause-sound
 returns-then-has_ended-2-clause-sound g c = λ keys_tell clock_tells.
-    went_sound g.A.Application.means _ _ _ _ (c.loop-turn.invariant.went keys_tell clock_tells) _ refl
+    went_sound g.A.Application.means _ _ _ _ (c.loop-turn.invariant.so_far keys_tell clock_tells) _ refl
 
 pub returns-else-has_ended-2-clause-sound : goal.returns-else-has_ended-2-clause-sound
 returns-else-has_ended-2-clause-sound g c = λ keys_tell clock_tells.
-    went_sound g.A.Application.means _ _ _ _ (c.loop-turn.invariant.went keys_tell clock_tells) _ refl
+    went_sound g.A.Application.means _ _ _ _ (c.loop-turn.invariant.so_far keys_tell clock_tells) _ refl
 
 -- how many gets were asked
 pub returns-in-Err-clause-asked : goal.returns-in-Err-clause-asked
@@ -214,16 +214,16 @@ returns-else-has_ended-2-clause-asked g c =
 
 -- where the keys that were taken lead
 pub returns-then-has_ended-clause-leads : goal.returns-then-has_ended-clause-leads
-returns-then-has_ended-clause-leads g c = λ keys_tell went.
+returns-then-has_ended-clause-leads g c = λ keys_tell so_far.
     runs_to g.A.Application.means _ _ _ _ _ (c.loop-turn.invariant.gone keys_tell) _ refl
     (λ going. let both : true ≡ false = sym c.if-has_ended.true ∙ c.has_ended.ensures ∙ going in absurd (cc))
 
 pub returns-in-End-clause-leads : goal.returns-in-End-clause-leads
-returns-in-End-clause-leads g c = λ keys_tell went.
+returns-in-End-clause-leads g c = λ keys_tell so_far.
     runs_to g.A.Application.means _ _ _ _ _ (c.loop-turn.invariant.gone keys_tell) _
     ((c.in-End.ensures.bytes keys_tell).1 ∙ sym (c.in-End.ensures.bytes keys_tell).0) (λ going. (c.in-End.ensures.bytes keys_tell).1)
 
 pub returns-then-has_ended-2-clause-leads : goal.returns-then-has_ended-2-clause-leads
-returns-then-has_ended-2-clause-leads g c = λ keys_tell went.
+returns-then-has_ended-2-clause-leads g c = λ keys_tell so_far.
     runs_to g.A.Application.means _ _ _ _ _ (c.loop-turn.invariant.gone keys_tell) _ refl
     (λ going. let both : true ≡ false = sym c.if-has_ended-2.true ∙ c.has_ended-2.ensures ∙ going in absurd (cc))

@@ -1,19 +1,19 @@
 use Rattle.std.proofs.Common.{◌≡◌, ◌+◌, ◌≤◌, false, length, IsTrue}
-use Rattle.cm_run.specs.Observed.{observed}
+use Rattle.cm_run.specs.Observation.{observation}
 use Rattle.cm_run.specs.Ready.{IsReadyIn}
 use Rattle.cm_run.specs.Trace.{is_ended, keys_trace, run_state, run_trace, starting, unless}
 use Rattle.cm_run.proofs.MomentLaws.{Gone}
-use Rattle.cm_run.proofs.Progress.{Went}
+use Rattle.cm_run.proofs.Progress.{RunSoFar}
 use Rattle.cm_run.proofs.Course.{Ahead}
 use Rattle.cm_run.proofs.engine.run.Given as goal
 
--- the keys so far have happened, those behind them are left, and no fault was counted
+-- the keys so far have happened, those after them are left, and no fault was counted
 abbrev pub invariant-loop-turn : goal.invariant-loop-turn
 invariant-loop-turn g l = record {
   ahead : IsTrue g.K.Source.tells → IsTrue g.C.Clock.tells → Ahead
-      (observed (g.S.Sink.told l.fn.screen) (g.W.Sink.told l.fn.log) (g.K.Source.left l.fn.keys) (g.K.Source.gets l.fn.keys)
+      (observation (g.S.Sink.contents l.fn.screen) (g.W.Sink.contents l.fn.log) (g.K.Source.left l.fn.keys) (g.K.Source.gets l.fn.keys)
       (g.C.Clock.left l.fn.clock) l.fn.steps l.fn.app)
-      (observed (g.S.Sink.told l.screen) (g.W.Sink.told l.log) (g.K.Source.left l.keys) (g.K.Source.gets l.keys)
+      (observation (g.S.Sink.contents l.screen) (g.W.Sink.contents l.log) (g.K.Source.left l.keys) (g.K.Source.gets l.keys)
       (g.C.Clock.left l.clock) l.steps l.app)
       (unless (is_ended (g.A.Application.means.mode_of l.app))
       (keys_trace g.A.Application.means l.logging (run_state l.session l.app (g.C.Clock.left l.clock)) (g.K.Source.left l.keys)))
@@ -24,9 +24,9 @@ invariant-loop-turn g l = record {
   screen : g.S.Sink.faults l.screen ≡ g.S.Sink.faults l.fn.screen;
   log : g.W.Sink.faults l.log ≡ g.W.Sink.faults l.fn.log;
   keys : g.K.Source.faults l.keys ≡ g.K.Source.faults l.fn.keys;
-  went : IsTrue g.K.Source.tells → IsTrue g.C.Clock.tells → Went g.A.Application.means
+  so_far : IsTrue g.K.Source.tells → IsTrue g.C.Clock.tells → RunSoFar g.A.Application.means
       (starting g.A.Application.means l.fn.app (g.C.Clock.left l.fn.clock)) (run_state l.session l.app (g.C.Clock.left l.clock))
       (g.K.Source.left l.fn.keys) (g.K.Source.left l.keys);
   gone : IsTrue g.K.Source.tells → Gone g.A.Application.means l.fn.app l.session l.app (g.K.Source.left l.fn.keys) (g.K.Source.left l.keys);
-  quiet : l.logging ≡ false → g.W.Sink.told l.log ≡ g.W.Sink.told l.fn.log;
+  quiet : l.logging ≡ false → g.W.Sink.contents l.log ≡ g.W.Sink.contents l.fn.log;
 }

@@ -1,5 +1,5 @@
 use Rattle.std.proofs.Common.{[], ◌∷◌, ◌++◌}
-use Rattle.cm_io.specs.Told.{Nothing}
+use Rattle.cm_io.specs.Contents.{Nothing}
 use Rattle.cm_run.specs.Moments.{given_if}
 use Rattle.cm_run.specs.Trace.{takes_moment}
 use Rattle.cm_run.proofs.MomentLaws.{first_given, others_given}

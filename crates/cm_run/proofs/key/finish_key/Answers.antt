@@ -1,5 +1,5 @@
 use Rattle.std.proofs.Common.{[], ◌∷◌}
-use Rattle.cm_io.specs.Told.{Nothing}
+use Rattle.cm_io.specs.Contents.{Nothing}
 use Rattle.cm_run.proofs.MomentLaws.{turned}
 use Rattle.cm_run.proofs.Outcomes.{abandons_next, edits_next, fails_next, refuses_next}
 use Rattle.cm_run.proofs.key.finish_key.Goals as goal

@@ -6,23 +6,23 @@ use Rattle.cm_run.proofs.key.handle_line_key.Goals as goal
 pub returns-in-Failed-clause-traces : goal.returns-in-Failed-clause-traces
 returns-in-Failed-clause-traces g c = λ tells keys gets.
     line_screen_cut g.A.Application.means c.args.logging c.args.key c.args.session.now c.edit_line-turn.new.session c.args.app.now
-    (g.C.Clock.left c.args.clock.now) (g.S.Sink.told c.args.screen.now) (g.S.Sink.told c.edit_line-turn.new.screen)
-    (g.W.Sink.told c.args.log.now) (g.W.Sink.told c.args.log.now) keys gets c.args.steps.now c.edit_line-turn.new.steps
+    (g.C.Clock.left c.args.clock.now) (g.S.Sink.contents c.args.screen.now) (g.S.Sink.contents c.edit_line-turn.new.screen)
+    (g.W.Sink.contents c.args.log.now) (g.W.Sink.contents c.args.log.now) keys gets c.args.steps.now c.edit_line-turn.new.steps
     c.in-Failed.ensures.bytes c.in-Failed.ensures.edited c.in-Failed.ensures.steps
 
 pub returns-in-Failed-log_line-clause-traces : goal.returns-in-Failed-log_line-clause-traces
 returns-in-Failed-log_line-clause-traces g c = λ tells keys gets.
     line_log_cut g.A.Application.means c.args.logging c.args.key c.args.session.now c.edit_line-turn.new.session c.args.app.now
-    (g.C.Clock.left c.args.clock.now) (g.S.Sink.told c.args.screen.now) (g.S.Sink.told c.edit_line-turn.new.screen)
-    (g.W.Sink.told c.args.log.now) (g.W.Sink.told c.log_line.new.log) keys gets c.args.steps.now c.edit_line-turn.new.steps
+    (g.C.Clock.left c.args.clock.now) (g.S.Sink.contents c.args.screen.now) (g.S.Sink.contents c.edit_line-turn.new.screen)
+    (g.W.Sink.contents c.args.log.now) (g.W.Sink.contents c.log_line.new.log) keys gets c.args.steps.now c.edit_line-turn.new.steps
     c.in-Failed-log_line.ensures.bytes c.in-Failed-log_line.ensures.nothing c.edit_line-turn.ensures.edited
     (echo_done c.edit_line-turn.result _ _ _ c.in_default.not-Failed c.edit_line-turn.ensures.bytes) c.edit_line-turn.ensures.steps
 
 pub returns-clause-traces : goal.returns-clause-traces
 returns-clause-traces g c = λ tells keys gets.
     line_on g.A.Application.means c.args.logging c.args.key c.args.session.now c.edit_line-turn.new.session c.args.app.now
-    (g.C.Clock.left c.args.clock.now) (g.S.Sink.told c.args.screen.now) (g.S.Sink.told c.edit_line-turn.new.screen)
-    (g.W.Sink.told c.args.log.now) (g.W.Sink.told c.log_line.new.log) keys gets c.args.steps.now c.edit_line-turn.new.steps
+    (g.C.Clock.left c.args.clock.now) (g.S.Sink.contents c.args.screen.now) (g.S.Sink.contents c.edit_line-turn.new.screen)
+    (g.W.Sink.contents c.args.log.now) (g.W.Sink.contents c.log_line.new.log) keys gets c.args.steps.now c.edit_line-turn.new.steps
     c.edit_line-turn.result _ _ (c.finish_key.ensures.traces tells _ keys gets) c.edit_line-turn.ensures.edited
     (c.edit_line-turn.ensures.turn (turn_done _ c.in_default.not-Failed))
     (echo_done c.edit_line-turn.result _ _ _ c.in_default.not-Failed c.edit_line-turn.ensures.bytes) c.edit_line-turn.ensures.steps
@@ -31,8 +31,8 @@ returns-clause-traces g c = λ tells keys gets.
 pub returns-clause-next : goal.returns-clause-next
 returns-clause-next g c = λ tells done.
     line_next g.A.Application.means c.args.logging c.args.key c.args.session.now c.edit_line-turn.new.session c.args.app.now
-    (g.C.Clock.left c.args.clock.now) (g.S.Sink.told c.args.screen.now) (g.S.Sink.told c.edit_line-turn.new.screen)
-    (g.W.Sink.told c.args.log.now) (g.W.Sink.told c.log_line.new.log) [] 0 c.args.steps.now c.edit_line-turn.new.steps
+    (g.C.Clock.left c.args.clock.now) (g.S.Sink.contents c.args.screen.now) (g.S.Sink.contents c.edit_line-turn.new.screen)
+    (g.W.Sink.contents c.args.log.now) (g.W.Sink.contents c.log_line.new.log) [] 0 c.args.steps.now c.edit_line-turn.new.steps
     c.edit_line-turn.result _ (c.finish_key.ensures.next tells done) c.edit_line-turn.ensures.edited
     (c.edit_line-turn.ensures.turn (turn_done _ c.in_default.not-Failed))
 
@@ -43,8 +43,8 @@ returns-clause-leads g c = λ done.
       given = line.given;
       leads = λ moment more.
           line_next g.A.Application.means c.args.logging c.args.key c.args.session.now c.edit_line-turn.new.session c.args.app.now
-          (line.given ++ moment ∷ more) (g.S.Sink.told c.args.screen.now) (g.S.Sink.told c.edit_line-turn.new.screen)
-          (g.W.Sink.told c.args.log.now) (g.W.Sink.told c.log_line.new.log) [] 0 c.args.steps.now c.edit_line-turn.new.steps
+          (line.given ++ moment ∷ more) (g.S.Sink.contents c.args.screen.now) (g.S.Sink.contents c.edit_line-turn.new.screen)
+          (g.W.Sink.contents c.args.log.now) (g.W.Sink.contents c.log_line.new.log) [] 0 c.args.steps.now c.edit_line-turn.new.steps
           c.edit_line-turn.result (run_state c.finish_key.new.session c.finish_key.new.app (moment ∷ more)) (line.leads moment more) c.edit_line-turn.ensures.edited
           (c.edit_line-turn.ensures.turn (turn_done _ c.in_default.not-Failed));
     }

@@ -1,5 +1,5 @@
 use Rattle.std.proofs.Common.{◌≡◌, ◌+◌, ap, arith, drop, rules, sym, ◌∙◌}
-use Rattle.cm_tables.specs.Listed.{first_place}
+use Rattle.cm_tables.specs.Listing.{first_place}
 use Rattle.cm_tables.proofs.StartLaws.{listed_in, listed_stop}
 use Rattle.cm_tables.proofs.ListedEntries.{listed_of}
 use Rattle.cm_tables.proofs.listed.next_listed.Goals as goal

@@ -1,5 +1,5 @@
 use Rattle.std.proofs.Common.{◌≡◌, ◌+◌, drop}
-use Rattle.cm_tables.specs.Listed.{first_place, next_listed}
+use Rattle.cm_tables.specs.Listing.{first_place, next_listed}
 use Rattle.cm_tables.specs.Search.{AreNotBelow, Ascends}
 use Rattle.cm_tables.proofs.ListedEntries.{listed_of}
 use Rattle.cm_tables.proofs.listed.next_listed.Given as goal

@@ -8,6 +8,7 @@ returns-then-is_first-clause-value c =
     ∙ exact_is_look c.args.atom.now c.args.entries.now c.from_first-start.result.0 c.from_first-start.result.1.now _
     c.from_first-start.ensures.first (sym c.is_first.ensures.value ∙ c.if-is_first.true)
 
+-- [abbreviation]
 pub returns-clause-value : goal.returns-clause-value
 returns-clause-value c =
     c.abbreviated.ensures.value

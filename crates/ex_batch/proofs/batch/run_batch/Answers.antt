@@ -1,5 +1,5 @@
 use Rattle.std.proofs.Common.{◌+◌, [], refl, ◌∙◌}
-use Rattle.cm_io.specs.Told.{Nothing}
+use Rattle.cm_io.specs.Contents.{Nothing}
 use Rattle.cm_run.specs.Cause.{ObeyCause}
 use Rattle.ex_batch.specs.declared.batch.TheConstants.{CONTROL_LINES}
 use Rattle.ex_batch.specs.declared.step.Next.TheVariants.{Line, Over}
@@ -34,6 +34,7 @@ returns-in-Err-clause-traces g c = λ tells log keys gets.
     way_cut c.args.file.now CONTROL_LINES _ _ _ _ c.loop-line._line c.loop-line.place c.in-Err.stop
     c.loop-line-test.true (c.in-Err.ensures.takes tells log keys gets) (c.loop-line.invariant.way tells log keys gets)
 
+-- [batch-line]
 pub returns-clause-traces : goal.returns-clause-traces
 returns-clause-traces g c = λ tells log keys gets.
     full_traces c.args.file.now CONTROL_LINES _ _ _ c.loop-line._line c.loop-line.place c.loop-line-test.false

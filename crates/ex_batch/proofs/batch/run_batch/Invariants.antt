@@ -1,7 +1,7 @@
--- The lines so far have been done, and those behind them are left.
+-- The lines so far have been done, and those after them are left.
 use Rattle.std.proofs.Common.{◌≡◌, ◌-◌, ℕ, List, IsTrue}
-use Rattle.cm_io.specs.Told.{Told}
-use Rattle.cm_run.specs.Observed.{observed}
+use Rattle.cm_io.specs.Contents.{Contents}
+use Rattle.cm_run.specs.Observation.{observation}
 use Rattle.ex_batch.specs.Batch.{batch_from, batch_of}
 use Rattle.ex_batch.specs.declared.batch.TheConstants.{CONTROL_LINES}
 use Rattle.ex_batch.specs.declared.step.Next.TheVariants.{Line}
@@ -10,9 +10,9 @@ use Rattle.ex_batch.proofs.batch.run_batch.Given as goal
 
 abbrev pub invariant-loop-line : goal.invariant-loop-line
 invariant-loop-line g l = record {
-  way : IsTrue g.C.Clock.tells → (log : Told) → (keys : List ℕ) → (gets : ℕ) → OnWay
-      (observed (g.S.Sink.told l.fn.screen) log keys gets (g.C.Clock.left l.fn.clock) l.fn.steps l.fn.job)
-      (observed (g.S.Sink.told l.screen) log keys gets (g.C.Clock.left l.clock) l.steps l.job)
+  way : IsTrue g.C.Clock.tells → (log : Contents) → (keys : List ℕ) → (gets : ℕ) → OnWay
+      (observation (g.S.Sink.contents l.fn.screen) log keys gets (g.C.Clock.left l.fn.clock) l.fn.steps l.fn.job)
+      (observation (g.S.Sink.contents l.screen) log keys gets (g.C.Clock.left l.clock) l.steps l.job)
       (batch_from l.file (CONTROL_LINES - l._line) (g.C.Clock.left l.clock) l.job (Line l.place))
       (batch_of l.file (g.C.Clock.left l.fn.clock) l.fn.job);
   faults : g.S.Sink.faults l.screen ≡ g.S.Sink.faults l.fn.screen;

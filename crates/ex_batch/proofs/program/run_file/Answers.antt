@@ -1,6 +1,6 @@
-use Rattle.cm_io.specs.Told.{Nothing}
+use Rattle.cm_io.specs.Contents.{Nothing}
 use Rattle.std.proofs.Common.{[]}
-use Rattle.ex_batch.specs.Stands.{scene}
+use Rattle.ex_batch.specs.RunEnd.{scene}
 use Rattle.ex_batch.proofs.Runs.{ran_lines, ran_refused, ran_short}
 use Rattle.ex_batch.proofs.program.run_file.Goals as goal
 use Rattle.std.proofs.Common.{IsTrue}

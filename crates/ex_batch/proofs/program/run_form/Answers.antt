@@ -5,7 +5,7 @@ use Rattle.ex_system.specs.Disk.{disk_of}
 use Rattle.ex_system.specs.Saving.{Saves}
 use Rattle.ex_system.proofs.Starts.{began_cause}
 use Rattle.ex_batch.specs.Request.{job_view}
-use Rattle.ex_batch.specs.Stands.{Ran, scene}
+use Rattle.ex_batch.specs.RunEnd.{Ran, scene}
 use Rattle.ex_batch.proofs.Outcomes.{course_early, course_past}
 use Rattle.ex_batch.proofs.program.run_form.Goals as goal
 

@@ -1,7 +1,7 @@
 use Rattle.std.proofs.Common.{IsTrue, refl}
 use Rattle.ex_system.specs.Disk.{disk_of}
 use Rattle.ex_batch.specs.Request.{job_view}
-use Rattle.ex_batch.specs.Stands.{scene}
+use Rattle.ex_batch.specs.RunEnd.{scene}
 use Rattle.ex_batch.proofs.Outcomes.{heads, heads_usage, usage_tried}
 use Rattle.ex_batch.proofs.program.run_words.Goals as goal
 

@@ -16,8 +16,8 @@ returns-in-Condition-clause-takes g c = λ tells log keys gets.
 
 pub returns-in-Label-clause-takes : goal.returns-in-Label-clause-takes
 returns-in-Label-clause-takes g c = λ tells log keys gets.
-    control_label c.args.file.now c.args.place (g.C.Clock.left c.args.clock.now) c.args.job.now _ _ _ c.behind_label.result
-    (ap control_view c.in-Label.is) c.behind_label.ensures
+    control_label c.args.file.now c.args.place (g.C.Clock.left c.args.clock.now) c.args.job.now _ _ _ c.after_label.result
+    (ap control_view c.in-Label.is) c.after_label.ensures
 
 pub returns-in-Plain-clause-takes : goal.returns-in-Plain-clause-takes
 returns-in-Plain-clause-takes g c = λ tells log keys gets.

@@ -1,6 +1,6 @@
 -- What is left of the bytes is left to be put.
 use Rattle.std.proofs.Common.{length, map}
-use Rattle.cm_text.specs.Shown.{printing_byte}
+use Rattle.cm_text.specs.ScreenBytes.{printing_byte}
 use Rattle.cm_io.proofs.Texts.{Left}
 use Rattle.ex_commands.proofs.printing.put_printing.Given as goal
 

@@ -1,5 +1,5 @@
 use Rattle.std.proofs.Common.{arith}
-use Rattle.ex_image.specs.Said.{next_said}
+use Rattle.ex_image.specs.LineViews.{next_said}
 use Rattle.ex_image.proofs.DecodeLaws.{drafted_read}
 use Rattle.ex_image.proofs.Leads.{makes_more, makes_start}
 use Rattle.ex_image.proofs.RecordLaws.{record_shorter, record_takes}

@@ -2,7 +2,7 @@ use Rattle.std.proofs.Common.{rules, arith}
 use Rattle.std.specs.Ordering.{on}
 use Rattle.cm_files.specs.Catalogue.{by_bytes}
 use Rattle.ex_store.specs.declared.directory.Directory.{Directory}
-use Rattle.ex_store.specs.Lent.{directory_of_view}
+use Rattle.ex_store.specs.Views.{directory_of_view}
 use Rattle.ex_image.proofs.ReaderFaults.{above_last}
 use Rattle.ex_image.proofs.faults.is_directory_above.Goals as goal
 

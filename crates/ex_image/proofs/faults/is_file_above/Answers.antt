@@ -1,7 +1,7 @@
 use Rattle.std.proofs.Common.{arith}
-use Rattle.ex_store.specs.Lent.{row_of_view}
+use Rattle.ex_store.specs.Views.{row_of_view}
 use Rattle.ex_store.specs.Rows.{by_row}
-use Rattle.ex_image.specs.Said.{row_said}
+use Rattle.ex_image.specs.LineViews.{row_said}
 use Rattle.ex_image.proofs.ReaderFaults.{above_last}
 use Rattle.ex_image.proofs.faults.is_file_above.Goals as goal
 

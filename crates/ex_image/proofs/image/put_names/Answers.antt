@@ -12,8 +12,8 @@ returns-in-Failed g c = appends_early _ _ _ _ _ c.in-Failed.ensures
 pub returns : goal.returns
 returns g c =
     appends_both _ _ _ _ _ _ _ c.in_default.ensures
-    (subst (λ line. Appends g.T.Target.tells (g.T.Target.outside c.put_behind.new.target)
-    (g.T.Target.outside c.put_behind-2.new.target)
-    (line ++ flat_map record_text (map logical_record c.args.parts.now.logical)) c.put_behind-2.result)
+    (subst (λ line. Appends g.T.Target.tells (g.T.Target.outside c.put_after.new.target)
+    (g.T.Target.outside c.put_after-2.new.target)
+    (line ++ flat_map record_text (map logical_record c.args.parts.now.logical)) c.put_after-2.result)
     (c.as_bytes.ensures ∙ c.connected_line-line.ensures
-    ∙ ap (λ (name : List ℕ). line_text (Connected name) ++ 10 ∷ []) c.connected.ensures) c.put_behind-2.ensures)
+    ∙ ap (λ (name : List ℕ). line_text (Connected name) ++ 10 ∷ []) c.connected.ensures) c.put_after-2.ensures)

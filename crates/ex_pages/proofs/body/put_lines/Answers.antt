@@ -2,7 +2,7 @@ use Rattle.std.proofs.Common.{◌≡◌, ◌∷◌, ◌++◌, ap, sym, ◌∙◌
 use Rattle.cm_io.proofs.Texts.{Left, left_less, left_nothing}
 use Rattle.cm_text.specs.Lines.{lines}
 use Rattle.ex_pages.specs.Pages.{line_rows, rows_of}
-use Rattle.ex_pages.specs.Walk.{count_behind, rows_behind}
+use Rattle.ex_pages.specs.Walk.{count_after, rows_after}
 use Rattle.ex_pages.proofs.RowLaws.{line_counts, line_cut, line_left, rows_none}
 use Rattle.ex_pages.proofs.body.put_lines.Goals as goal
 
@@ -16,19 +16,19 @@ loop-first-preserved g c =
     record {
       left = left_less _ _ _ _ _ _ _ _ c.put_pieces-count.ensures.rows c.loop-first.invariant.left
           (line_left c.args.width c.loop-first.rest.now line rest c.loop-first.count is
-          ∙ ap (λ n. rows_behind c.loop-first.count (line_rows c.args.width line) ++ rows_behind n (rows_of c.args.width rest))
+          ∙ ap (λ n. rows_after c.loop-first.count (line_rows c.args.width line) ++ rows_after n (rows_of c.args.width rest))
           (sym c.put_pieces-count.ensures.count));
-      counts = ap (λ n. count_behind n (rows_of c.args.width rest)) c.put_pieces-count.ensures.count
+      counts = ap (λ n. count_after n (rows_of c.args.width rest)) c.put_pieces-count.ensures.count
           ∙ line_counts c.args.width c.loop-first.rest.now line rest c.loop-first.count is ∙ c.loop-first.invariant.counts;
       few = c.put_pieces-count.ensures.less;
     }
 
 pub returns-clause-rows : goal.returns-clause-rows
 returns-clause-rows g c =
-    left_nothing _ _ _ _ (subst (λ it. Left g.S.Sink c.args.out.now c.loop-first.out it (rows_behind 0 (rows_of c.args.width c.args.bytes.now)))
-    (ap (λ it. rows_behind c.loop-first.count it) (rows_none c.args.width c.loop-first.rest.now c.in_default.ensures)) c.loop-first.invariant.left)
+    left_nothing _ _ _ _ (subst (λ it. Left g.S.Sink c.args.out.now c.loop-first.out it (rows_after 0 (rows_of c.args.width c.args.bytes.now)))
+    (ap (λ it. rows_after c.loop-first.count it) (rows_none c.args.width c.loop-first.rest.now c.in_default.ensures)) c.loop-first.invariant.left)
 
 pub returns-clause-count : goal.returns-clause-count
 returns-clause-count g c =
-    sym (ap (λ it. count_behind c.loop-first.count it) (rows_none c.args.width c.loop-first.rest.now c.in_default.ensures))
+    sym (ap (λ it. count_after c.loop-first.count it) (rows_none c.args.width c.loop-first.rest.now c.in_default.ensures))
     ∙ c.loop-first.invariant.counts

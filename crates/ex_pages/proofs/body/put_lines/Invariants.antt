@@ -2,15 +2,15 @@
 use Rattle.std.proofs.Common.{◌≡◌, ◌<◌, length}
 use Rattle.cm_io.proofs.Texts.{Left}
 use Rattle.ex_pages.specs.Pages.{rows_of}
-use Rattle.ex_pages.specs.Walk.{count_behind, rows_behind}
+use Rattle.ex_pages.specs.Walk.{count_after, rows_after}
 use Rattle.ex_pages.specs.declared.body.TheConstants.{PAGE_ROWS}
 use Rattle.ex_pages.proofs.body.put_lines.Given as goal
 
 abbrev pub invariant-loop-first : goal.invariant-loop-first
 invariant-loop-first g l = record {
-  left : Left g.S.Sink l.fn.out l.out (rows_behind l.count (rows_of l.width l.rest))
-      (rows_behind 0 (rows_of l.width l.bytes));
-  counts : count_behind l.count (rows_of l.width l.rest) ≡ count_behind 0 (rows_of l.width l.bytes);
+  left : Left g.S.Sink l.fn.out l.out (rows_after l.count (rows_of l.width l.rest))
+      (rows_after 0 (rows_of l.width l.bytes));
+  counts : count_after l.count (rows_of l.width l.rest) ≡ count_after 0 (rows_of l.width l.bytes);
   few : l.count < PAGE_ROWS;
 }
 

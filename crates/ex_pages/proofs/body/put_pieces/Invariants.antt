@@ -2,15 +2,15 @@
 use Rattle.std.proofs.Common.{◌≡◌, ◌<◌, length}
 use Rattle.cm_io.proofs.Texts.{Left}
 use Rattle.ex_pages.specs.Pages.{line_rows}
-use Rattle.ex_pages.specs.Walk.{count_behind, rows_behind}
+use Rattle.ex_pages.specs.Walk.{count_after, rows_after}
 use Rattle.ex_pages.specs.declared.body.TheConstants.{PAGE_ROWS}
 use Rattle.ex_pages.proofs.body.put_pieces.Given as goal
 
 abbrev pub invariant-loop-rest : goal.invariant-loop-rest
 invariant-loop-rest g l = record {
-  left : Left g.S.Sink l.fn.out l.out (rows_behind l.count (line_rows l.width l.rest))
-      (rows_behind l.before (line_rows l.width l.line));
-  counts : count_behind l.count (line_rows l.width l.rest) ≡ count_behind l.before (line_rows l.width l.line);
+  left : Left g.S.Sink l.fn.out l.out (rows_after l.count (line_rows l.width l.rest))
+      (rows_after l.before (line_rows l.width l.line));
+  counts : count_after l.count (line_rows l.width l.rest) ≡ count_after l.before (line_rows l.width l.line);
   few : l.count < PAGE_ROWS;
 }
 

@@ -2,7 +2,7 @@ use Rattle.std.proofs.Common.{◌<◌, ◌+◌, List, length, ap, ◌∙◌, sub
 use Rattle.cm_run.specs.Event.{Event, trials_of}
 use Rattle.cm_run.specs.Trace.{is_ended}
 use Rattle.ex_store.specs.State.{State}
-use Rattle.ex_take.specs.Exec.{exec_meaning}
+use Rattle.ex_take.specs.Exec.{exec_semantics}
 use Rattle.ex_take.specs.ExecState.{ExecState}
 use Rattle.ex_program.specs.declared.progress.TheConstants.{GENERATED_KEYS}
 use Rattle.ex_program.proofs.Summaries.{cut_for_memory, from_first, memory_alone, performed, shown, sums_up, taken, trace_from_first}
@@ -11,7 +11,7 @@ use Rattle.ex_program.proofs.generated_run.summarize.Goals as goal
 pub error_of-requires : goal.error_of-requires
 error_of-requires g c =
     memory_alone _ (length c.new-keys.result.left) (length c.run-stop.new.keys.left)
-    (is_ended (exec_meaning.mode_of c.run-stop.new.app)) c.in-Err.why c.in-Err.ensures.cause (c.in-Err.ensures.count refl)
+    (is_ended (exec_semantics.mode_of c.run-stop.new.app)) c.in-Err.why c.in-Err.ensures.cause (c.in-Err.ensures.count refl)
     (subst (λ n. n < GENERATED_KEYS) c.count_left-all.ensures.count c.count_left-all.ensures.few)
 
 pub returns-in-Err-clause-wanting : goal.returns-in-Err-clause-wanting
@@ -24,6 +24,7 @@ overflow_sub-result g c =
     (taken c.count_left-all.result c.count_left.result _ _ _ c.count_left-all.ensures.count c.count_left.ensures.count
     (performed _ _ _ (c.in-Ok.ensures.traces refl refl)).keys).0
 
+-- [summary]
 pub returns-clause-summary : goal.returns-clause-summary
 returns-clause-summary g c =
     sums_up c.new-exec.result c.new-keys.result.left c.args.lines c.refused.result _ c.count.result c.rows.result c.has_ended.result c.run-stop.new.app

@@ -1,6 +1,6 @@
 use Rattle.std.proofs.Common.{ap, ◌∙◌}
-use Rattle.cm_io.specs.Told.{add}
-use Rattle.ex_system.specs.Asked.{form_view}
+use Rattle.cm_io.specs.Contents.{add}
+use Rattle.ex_system.specs.WordViews.{form_view}
 use Rattle.ex_system.specs.Disk.{disk_of}
 use Rattle.ex_run.specs.Scene.{scene}
 use Rattle.ex_run.proofs.Words.{heads}
@@ -12,7 +12,7 @@ use Rattle.ex_program.proofs.program.exec20.Goals as goal
 pub returns-clause-done_shown : goal.returns-clause-done_shown
 returns-clause-done_shown g c = λ keys clock done form start asks.
     ((heads _ exec_over _ (form_view c.in-Some.form) _ _ _ _ c.run_form.result c.in-Some.ensures c.run_form.ensures).follows (keys, clock) form start asks).shown done
-    ∙ ap (λ bytes. add (g.S.Sink.told c.args.screen.now) bytes)
+    ∙ ap (λ bytes. add (g.S.Sink.contents c.args.screen.now) bytes)
     (shown_where form.logs start (g.C.Clock.left c.args.clock.now) (g.K.Source.left c.args.keys.now))
 
 pub returns-clause-done_logged : goal.returns-clause-done_logged
@@ -35,6 +35,7 @@ pub returns-clause-unlogged : goal.returns-clause-unlogged
 returns-clause-unlogged g c = λ none.
     (heads _ exec_over _ (form_view c.in-Some.form) _ _ _ _ c.run_form.result c.in-Some.ensures c.run_form.ensures).unlogged none
 
+-- [usage]
 pub returns-clause-usage : goal.returns-clause-usage
 returns-clause-usage g c = no_usage _ _ (form_view c.in-Some.form) c.run_form.result c.in-Some.ensures c.run_form.ensures.usage
 
@@ -56,7 +57,7 @@ returns-clause-complete g c = λ keys form start asks few screen log source host
 pub returns-clause-limit : goal.returns-clause-limit
 returns-clause-limit g c = λ keys form start asks taken rest all count going screen log source host.
     ((heads _ exec_over _ (form_view c.in-Some.form) _ _ _ _ c.run_form.result c.in-Some.ensures c.run_form.ensures).finishes keys form start asks).limit taken rest all count
-    (λ moments told. ended_where (exec_left form.logs start moments taken) ∙ going moments told)
+    (λ moments known. ended_where (exec_left form.logs start moments taken) ∙ going moments known)
     (record { screen = screen; log = log; keys = source; host = host })
 
 -- what stands, by the way out

@@ -1,5 +1,5 @@
 use Rattle.std.proofs.Common.{sym, ◌∙◌}
-use Rattle.ex_system.specs.Asked.{pair_view, triple_view}
+use Rattle.ex_system.specs.WordViews.{pair_view, triple_view}
 use Rattle.ex_program.proofs.WordLaws.{of_three, of_two}
 use Rattle.ex_program.proofs.words.read_form.Goals as goal
 

@@ -1,10 +1,10 @@
 use Rattle.std.proofs.Common.{IsTrue, refl, sym, subst}
 use Rattle.cm_io.specs.declared.status.Status.{Status}
 use Rattle.cm_io.specs.declared.status.Status.TheVariants as status
-use Rattle.ex_system.specs.Asked.{form_view}
+use Rattle.ex_system.specs.WordViews.{form_view}
 use Rattle.ex_system.specs.Disk.{disk_of}
 use Rattle.ex_system.specs.Messages.{IsSilent}
-use Rattle.ex_spool.specs.Stands.{Course, scene}
+use Rattle.ex_spool.specs.RunEnd.{Course, scene}
 use Rattle.ex_spool.proofs.WordCases.{follows_asked, stands_asked, start_asked, usage_asked}
 use Rattle.ex_spool.proofs.Prints.{course_cut, course_early, course_past, printed_whole}
 use Rattle.ex_spool.proofs.program.spool20.Given.{Over}
@@ -140,7 +140,7 @@ course_whole g c =
     c.in-Ok.ensures.loaded c.in-Ok.ensures.quiet c.in-Ok.ensures.began
     (λ tells. (c.now-moment.ensures.moment tells, c.now-moment.ensures.later tells)) refl
     (printed_whole c.in-Ok.store.state c.now-moment.result c.in-Some.form.out.now
-    (g.S.Sink.told c.args.screen.now) (g.S.Sink.told c.show_pages.new.screen) (g.S.Sink.told c.finish.new.screen)
+    (g.S.Sink.contents c.args.screen.now) (g.S.Sink.contents c.show_pages.new.screen) (g.S.Sink.contents c.finish.new.screen)
     (g.S.Sink.faults c.args.screen.now) (g.S.Sink.faults c.show_pages.new.screen) (g.S.Sink.faults c.finish.new.screen)
     (disk_of g.H.Host c.start.new.host) (disk_of g.H.Host c.finish.new.host) c.drop_due.new.store.state c.finish.result
     c.in-Done.ensures.bytes c.in-Done.ensures.cause c.drop_due.ensures

@@ -34,7 +34,7 @@ of_files-requires-clause-lawful c =
     append_lawful c.args.directories.now.list c.retention_of-retention.result c.args.moment c.args.to.now c.args.files.now.rows (elements_at c.args.files.now.rows c.args.positions.now) c.in-Ok.opening c.in-Ok-concatenate.bytes
     c.in-Ok-row_changes_of.row_changes.items c.requires.rows c.requires.target (ap (λ (n : ℕ). nat_le n RETENTION_LIMIT) is ∙ c.requires.retention) opens pours c.in-Ok-row_changes_of.ensures
 
--- the file that is put behind is the same in rows that are alike, and so are its bytes
+-- the file that is put after is the same in rows that are alike, and so are its bytes
 opens : (c : goal.After-of_files) (rows : List Row) → AreAlike c.args.files.now.rows rows
     → opened c.retention_of-retention.result c.args.moment (own_key c.args.to.now) c.args.to.now.generation rows ≡ Ok c.in-Ok.opening
 opens c rows alike =

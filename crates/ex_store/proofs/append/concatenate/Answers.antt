@@ -2,7 +2,7 @@ use Rattle.std.proofs.Common.{◌≡◌, ◌<◌, length, length-append, get_or,
 use Rattle.cm_lists.proofs.Elements.{get_or_of_some}
 use Rattle.cm_lists.proofs.Quantifiers.{all_below_next, all_drop_next}
 use Rattle.ex_store.specs.declared.row.Row.{Row}
-use Rattle.ex_store.specs.Lent.{row_of_view}
+use Rattle.ex_store.specs.Views.{row_of_view}
 use Rattle.ex_store.proofs.ElementsLaws.{elements_more}
 use Rattle.ex_store.proofs.ConcatenationLaws.{fits_within, concatenation_err, concatenation_more}
 use Rattle.ex_store.proofs.append.concatenate.Goals as goal

@@ -6,7 +6,7 @@ use Rattle.ex_store.specs.declared.key.NamePair.{NamePair}
 use Rattle.ex_store.specs.declared.row.Row.{Row}
 use Rattle.ex_store.specs.Appending.{pairs_to}
 use Rattle.ex_store.specs.Rows.{full_of}
-use Rattle.ex_store.specs.Lent.{row_of_view}
+use Rattle.ex_store.specs.Views.{row_of_view}
 use Rattle.ex_store.proofs.ElementsLaws.{elements_more}
 use Rattle.ex_store.proofs.append.pairs_to.Goals as goal
 

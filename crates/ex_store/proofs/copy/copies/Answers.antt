@@ -11,7 +11,7 @@ use Rattle.ex_store.specs.declared.limits.TheConstants.{RETENTION_LIMIT}
 use Rattle.ex_store.proofs.AdmittedLaws.{counted_target}
 use Rattle.ex_store.proofs.AlikeLaws.{either_alike, length_alike, total_alike}
 use Rattle.ex_store.proofs.AllCopiedLaws.{IsCopying, admitted_free, copies_more, copies_refused, outcome_at, way_start}
-use Rattle.ex_store.specs.Lent.{row_of_view}
+use Rattle.ex_store.specs.Views.{row_of_view}
 use Rattle.std.proofs.lemmas.Bool.{and_from}
 use Rattle.cm_lists.proofs.Elements.{get_or_of_some}
 use Rattle.cm_lists.proofs.Quantifiers.{all_at}

@@ -1,5 +1,5 @@
 use Rattle.std.proofs.Common.{◌≡◌, true, List, drop, length}
-use Rattle.cm_files.specs.Catalogue.{ascends}
+use Rattle.cm_lists.specs.Ascent.{ascends}
 use Rattle.ex_store.specs.Families.{by_family, rows_of}
 use Rattle.std.specs.List.{list_all}
 use Rattle.ex_store.specs.Ready.{is_lawful}

@@ -5,7 +5,7 @@ use Rattle.cm_lists.proofs.Elements.{get_or_of_some}
 use Rattle.ex_generations.specs.declared.file.Remark.TheVariants as remarks
 use Rattle.ex_store.specs.declared.row.Row.{Row}
 use Rattle.ex_store.specs.Draft.{kept_by}
-use Rattle.ex_store.specs.Lent.{row_of_view}
+use Rattle.ex_store.specs.Views.{row_of_view}
 use Rattle.ex_store.specs.Rows.{with_remark}
 use Rattle.ex_store.specs.State.{retention_of}
 use Rattle.ex_store.proofs.RemarkLaws.{changed_next}

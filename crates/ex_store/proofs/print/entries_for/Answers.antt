@@ -2,7 +2,7 @@ use Rattle.std.proofs.Common.{◌<◌, length, get_or, ap, ◌∙◌}
 use Rattle.cm_lists.proofs.Elements.{get_or_of_some}
 use Rattle.cm_lists.proofs.Quantifiers.{all_below_next, all_drop_next}
 use Rattle.ex_store.specs.Printing.{entry_for}
-use Rattle.ex_store.specs.Lent.{row_of_view}
+use Rattle.ex_store.specs.Views.{row_of_view}
 use Rattle.ex_store.proofs.ElementsLaws.{elements_more}
 use Rattle.ex_store.proofs.PrintedLaws.{made_more}
 use Rattle.ex_store.proofs.print.entries_for.Goals as goal

@@ -1,5 +1,5 @@
 use Rattle.std.proofs.Common.{◌≡◌, ◌+◌, true, List, length, length-append, ap, sym, subst, ◌∙◌}
-use Rattle.cm_files.specs.Catalogue.{ascends}
+use Rattle.cm_lists.specs.Ascent.{ascends}
 use Rattle.ex_store.specs.declared.family.Family.{Family}
 use Rattle.ex_store.specs.declared.row.Row.{Row}
 use Rattle.ex_store.specs.Families.{by_family, rows_of}
@@ -7,7 +7,7 @@ use Rattle.ex_store.specs.Positions.{elements_at}
 use Rattle.ex_store.specs.Renaming.{pair_for}
 use Rattle.ex_store.specs.WellFormed.{is_row_among}
 use Rattle.ex_store.proofs.RenamedLaws.{IsRenaming, refused_so, renames_more, renames_refused, renaming_start}
-use Rattle.ex_store.specs.Lent.{row_of_view}
+use Rattle.ex_store.specs.Views.{row_of_view}
 use Rattle.std.specs.List.{list_all}
 use Rattle.cm_lists.proofs.Elements.{get_or_of_some}
 use Rattle.cm_lists.proofs.Quantifiers.{all_at, all_below}

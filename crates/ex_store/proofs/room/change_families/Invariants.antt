@@ -1,5 +1,5 @@
 use Rattle.std.proofs.Common.{◌≡◌, true}
-use Rattle.cm_files.specs.Catalogue.{ascends}
+use Rattle.cm_lists.specs.Ascent.{ascends}
 use Rattle.ex_store.specs.Families.{by_family, rooms_of, rows_of}
 use Rattle.ex_store.specs.Ready.{rows_after_all}
 use Rattle.ex_store.proofs.room.change_families.Given as goal

@@ -1,5 +1,5 @@
 use Rattle.std.proofs.Common.{◌≡◌, ◌≤◌, ◌+◌, true, length, take}
-use Rattle.cm_files.specs.Catalogue.{ascends}
+use Rattle.cm_lists.specs.Ascent.{ascends}
 use Rattle.ex_store.specs.declared.key.Key.{Key}
 use Rattle.ex_store.specs.Families.{EachHasRoom, by_family, rows_of, demand_at}
 use Rattle.ex_store.specs.Ready.{count_under}

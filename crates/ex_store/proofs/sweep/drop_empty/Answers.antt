@@ -1,6 +1,6 @@
 use Rattle.std.proofs.Common.{◌≡◌, List, filter, length, rules, ap, arith, ◌∙◌}
 use Rattle.std.proofs.lemmas.Fn.{filter_same}
-use Rattle.cm_files.specs.Catalogue.{ascends}
+use Rattle.cm_lists.specs.Ascent.{ascends}
 use Rattle.ex_store.specs.Families.{by_family, rows_of}
 use Rattle.ex_store.specs.declared.family.Family.{Family}
 use Rattle.ex_store.proofs.SweepLaws.{ascends_filled, few_filled, has_files, rows_filled}

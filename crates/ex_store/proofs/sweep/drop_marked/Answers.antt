@@ -2,7 +2,7 @@ use Rattle.std.proofs.Common.{◌≡◌, ℕ, ◌+◌, ◌<◌, List, ◌∷◌,
 use Rattle.std.proofs.lemmas.List.{drop-set-lt, drop_more, get_or_default}
 use Rattle.std.proofs.lemmas.Grind.{common_steps}
 use Rattle.cm_lists.proofs.Elements.{set_map_more}
-use Rattle.cm_files.specs.Catalogue.{ascends}
+use Rattle.cm_lists.specs.Ascent.{ascends}
 use Rattle.ex_generations.specs.Generations.{marked, pages}
 use Rattle.ex_store.specs.declared.family.Family.{Family}
 use Rattle.ex_store.specs.Families.{by_family, is_under_directory, rooms_of, rows_of}
@@ -10,7 +10,7 @@ use Rattle.ex_store.specs.Rows.{pages_marked}
 use Rattle.ex_store.proofs.SweepLaws.{ascends_swept, rooms_swept, pages_other, pages_own, pages_within, rows_swept, swept}
 use Rattle.ex_store.proofs.sweep.drop_marked.Goals as goal
 
--- what is left behind a turn
+-- what is left after a turn
 left_is : (families : List Family) (i : ℕ) (item new : Family) → i < length families → item ≡ get_or families i item
     → (directory : List ℕ) (more : ℕ) → (pages_marked directory (rows_of (item ∷ drop (i + 1) families)) ≡ more + pages_marked directory (rows_of (drop (i + 1) families)))
     → pages_marked directory (rows_of (drop i families)) ≡ more + pages_marked directory (rows_of (drop (i + 1) (set families i new)))

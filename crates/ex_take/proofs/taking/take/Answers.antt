@@ -4,6 +4,7 @@ use Rattle.ex_take.specs.Taking.{Rests, took_of}
 use Rattle.ex_take.proofs.Outcomes.{rests}
 use Rattle.ex_take.proofs.taking.take.Goals as goal
 
+-- [take]
 pub returns-clause-takes : goal.returns-clause-takes
 returns-clause-takes g c = λ log keys gets moments. record {
   left = c.take_lines-took.new.exec;

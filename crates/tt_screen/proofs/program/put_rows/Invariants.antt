@@ -1,6 +1,6 @@
 use Rattle.std.proofs.Common.{take}
 use Rattle.cm_io.specs.Writer.{Writes}
-use Rattle.tt_screen.specs.Shown.{rows_text}
+use Rattle.tt_screen.specs.ScreenText.{rows_text}
 use Rattle.tt_screen.proofs.program.put_rows.Given as goal
 
 -- the rows so far are written

@@ -1,5 +1,5 @@
 use Rattle.std.proofs.Common.{◌+◌, ℕ, ap, refl, ◌∙◌}
-use Rattle.cm_blocks.specs.Kept.{cost_behind}
+use Rattle.cm_blocks.specs.KeptParse.{cost_after}
 use Rattle.cm_blocks.specs.Setting.{Setting, setting}
 use Rattle.cm_recognise.specs.declared.insertion.Insertion.{Insertion}
 use Rattle.cm_state.specs.SessionState.{text_of}
@@ -24,7 +24,7 @@ given g c = setting c.args.grammar.now (g.N.Names.catalogue c.args.names.now) (g
 -- what the steps have made of the session
 done : (g : Over) (c : goal.After-reparse g)
     → EditsAndParses (given g c) c.args.self.now c.reparse.new.self c.args.key
-    (cost_behind (given g c) c.truncate.new.self.node (text_of c.truncate.new.self) c.truncate.new.self.fields)
+    (cost_after (given g c) c.truncate.new.self.node (text_of c.truncate.new.self) c.truncate.new.self.fields)
 done g c =
     let trim = trims (given g c) c.args.self.now c.reopen.new.self c.apply_edit-change.new.self c.truncate.new.self
     c.args.class c.args.key
@@ -35,7 +35,7 @@ done g c =
     c.reparse.new.self c.args.class c.args.key
     c.apply_edit-change.result.front _ c.has_no_fault.ensures c.requires.ready c.requires.class c.reopen.ensures
     c.apply_edit-change.ensures.edited
-    c.truncate.ensures trim c.reparse.ensures.restorable c.reparse.ensures.same c.reparse.ensures.parse refl
+    c.truncate.ensures trim c.reparse.ensures.recall c.reparse.ensures.same c.reparse.ensures.parse refl
 
 pub returns-clause-edited : goal.returns-clause-edited
 returns-clause-edited g c = (done g c).edited

@@ -1,6 +1,6 @@
 use Rattle.std.proofs.Common.{rules, arith, ◌≡◌, ℕ, List, ◌++◌, length, ap, sym, ◌∙◌}
 use Rattle.std.proofs.lemmas.Grind.{common_steps}
-use Rattle.cm_blocks.specs.Kept.{common}
+use Rattle.cm_blocks.specs.KeptParse.{common}
 use Rattle.cm_state.proofs.Fronts.{common_longer}
 use Rattle.cm_state.proofs.session.Session.insert.Goals as goal
 

@@ -16,7 +16,7 @@ returns-clause-edited g c =
     let s = setting c.args.grammar.now (g.N.Names.catalogue c.args.names.now) (g.R.Rules.meanings c.args.rules.now) in
     let done = finishes s c.start-2.new.self c.finish.new.self c.reparse.new.self c.args.node _ _ c.args.line.now _
     c.has_no_fault.ensures c.requires.node (c.start-2.ensures, c.finish.ensures)
-    c.reparse.ensures.restorable c.reparse.ensures.same c.reparse.ensures.parse refl in
+    c.reparse.ensures.recall c.reparse.ensures.same c.reparse.ensures.parse refl in
     let prompt : c.start.inside.prompt ≡ c.args.self.now.prompt =
     ap (λ (held : SessionState). held.prompt) c.start.view_is in
     rw prompt at done.edited
@@ -26,7 +26,7 @@ returns-clause-parse g c =
     let s = setting c.args.grammar.now (g.N.Names.catalogue c.args.names.now) (g.R.Rules.meanings c.args.rules.now) in
     let done = finishes s c.start-2.new.self c.finish.new.self c.reparse.new.self c.args.node _ _ c.args.line.now _
     c.has_no_fault.ensures c.requires.node (c.start-2.ensures, c.finish.ensures)
-    c.reparse.ensures.restorable c.reparse.ensures.same c.reparse.ensures.parse refl in
+    c.reparse.ensures.recall c.reparse.ensures.same c.reparse.ensures.parse refl in
     done.parse
 
 pub returns-clause-decided : goal.returns-clause-decided
@@ -34,7 +34,7 @@ returns-clause-decided g c =
     let s = setting c.args.grammar.now (g.N.Names.catalogue c.args.names.now) (g.R.Rules.meanings c.args.rules.now) in
     let done = finishes s c.start-2.new.self c.finish.new.self c.reparse.new.self c.args.node _ _ c.args.line.now _
     c.has_no_fault.ensures c.requires.node (c.start-2.ensures, c.finish.ensures)
-    c.reparse.ensures.restorable c.reparse.ensures.same c.reparse.ensures.parse refl in
+    c.reparse.ensures.recall c.reparse.ensures.same c.reparse.ensures.parse refl in
     done.decided
 
 pub returns-clause-steps : goal.returns-clause-steps
@@ -42,5 +42,5 @@ returns-clause-steps g c =
     let s = setting c.args.grammar.now (g.N.Names.catalogue c.args.names.now) (g.R.Rules.meanings c.args.rules.now) in
     let done = finishes s c.start-2.new.self c.finish.new.self c.reparse.new.self c.args.node _ _ c.args.line.now _
     c.has_no_fault.ensures c.requires.node (c.start-2.ensures, c.finish.ensures)
-    c.reparse.ensures.restorable c.reparse.ensures.same c.reparse.ensures.parse refl in
+    c.reparse.ensures.recall c.reparse.ensures.same c.reparse.ensures.parse refl in
     c.reparse.ensures.steps ∙ ap (λ (spent : ℕ). c.args.steps.now + spent) done.cost

@@ -1,4 +1,4 @@
-use Rattle.ex_image.specs.Said.{next_said}
+use Rattle.ex_image.specs.LineViews.{next_said}
 use Rattle.ex_image.proofs.ReaderAdditions.{in_range_of, there_of}
 use Rattle.ex_image.proofs.reading.Reading.add.Goals as goal
 

@@ -1,4 +1,4 @@
-use Rattle.ex_store.specs.Lent.{queue_entry}
+use Rattle.ex_store.specs.Views.{queue_entry}
 use Rattle.ex_store.proofs.DraftLaws.{entry_is_short}
 use Rattle.ex_store.proofs.draft.Draft.request.Goals as goal
 

@@ -1,5 +1,5 @@
 use Rattle.std.proofs.Common.{arith}
-use Rattle.ex_store.specs.Lent.{row_of_view}
+use Rattle.ex_store.specs.Views.{row_of_view}
 use Rattle.ex_store.proofs.RowsInLaws.{catalogue_row, catalogue_rows}
 use Rattle.ex_store.proofs.names.StoreNames.row.Goals as goal
 

@@ -4,10 +4,10 @@ use Rattle.std.proofs.Common.{rules}
 
 pub returns-then-is_empty-clause-obeys : goal.returns-then-is_empty-clause-obeys
 returns-then-is_empty-clause-obeys g c =
-    typing_first c.args.self.now c.act.new.self c.args.to (g.S.Sink.told c.args.screen.now) (g.S.Sink.told c.act.new.screen) c.act.result
+    typing_first c.args.self.now c.act.new.self c.args.to (g.S.Sink.contents c.args.screen.now) (g.S.Sink.contents c.act.new.screen) c.act.result
     c.args.moment c.args.to (search rules) c.act.ensures.obeys
 
 pub returns-else-is_empty-clause-obeys : goal.returns-else-is_empty-clause-obeys
 returns-else-is_empty-clause-obeys g c =
-    typing_barred c.args.self.now c.refuse_line.new.self c.args.to (g.S.Sink.told c.args.screen.now) (g.S.Sink.told c.refuse_line.new.screen) c.refuse_line.result
+    typing_barred c.args.self.now c.refuse_line.new.self c.args.to (g.S.Sink.contents c.args.screen.now) (g.S.Sink.contents c.refuse_line.new.screen) c.refuse_line.result
     c.args.moment c.args.to (search rules) c.refuse_line.ensures.obeys

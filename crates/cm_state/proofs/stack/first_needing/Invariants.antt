@@ -1,7 +1,0 @@
-use Rattle.std.proofs.Common.{◌≡◌, drop}
-use Rattle.cm_state.specs.Stack.{first_needing}
-use Rattle.cm_state.proofs.stack.first_needing.Given as goal
-
--- it is the first of those from here on
-abbrev pub invariant-loop-number : goal.invariant-loop-number
-invariant-loop-number l = first_needing l.size l.number (drop l.number l.fields) ≡ first_needing l.size 0 l.fields
