@@ -1,0 +1,4 @@
+pub mod Command
+pub mod Graph
+pub mod Program
+pub mod Sum

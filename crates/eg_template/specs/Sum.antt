@@ -1,0 +1,25 @@
+-- The sum, what a command makes of it, and what it shows.
+use Rattle.std.specs.Prelude.{ℕ, ◌+◌, ◌-◌, nat_le, if◌then◌else◌, List, [], ◌++◌}
+use Rattle.std.specs.Fmt.{decimal}
+use Rattle.cm_text.specs.ScreenBytes.{end_of_line}
+use Rattle.eg_template.specs.declared.act.Command.{Command}
+use Rattle.eg_template.specs.declared.act.Command.TheVariants as commands
+use Rattle.eg_template.specs.declared.act.TheConstants.{MOST}
+
+-- the sum with a number more; one that is too large stays as it was
+abbrev pub sum_with : ℕ → ℕ → ℕ
+sum_with number sum = if nat_le number (MOST - sum) then sum + number else sum
+
+-- the sum after a command
+abbrev pub obeyed : Command → ℕ → ℕ
+obeyed (commands.Add number) sum = sum_with number sum
+obeyed command sum = sum
+
+-- the line of a sum
+unfoldable pub sum_text : ℕ → List ℕ
+sum_text sum = decimal sum ++ end_of_line
+
+-- what a command shows: ADD the sum
+abbrev pub reply : Command → ℕ → List ℕ
+reply (commands.Add number) sum = sum_text (sum_with number sum)
+reply command sum = []
