@@ -60,7 +60,7 @@ def ask(question):
 
 
 def answer(screen):
-    """A line that is typed, nothing where it is given up, and what was sent behind it."""
+    """A line that is typed, nothing where it is given up, and what was sent after it."""
     keys, line = Keys(), b""
     while True:
         sent = read_some()

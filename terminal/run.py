@@ -2,7 +2,7 @@
 
 The program reads its keys from a pipe. They end where the terminal is closed, and at HUP, INT, QUIT or TERM, to this
 process or to the program. The program can't take such a signal; it waits there, blocked, and this process looks for it
-behind each key and some times a second. Where this process ends, by KILL too, the pipe is closed. So whatever comes but
+after each key and some times a second. Where this process ends, by KILL too, the pipe is closed. So whatever comes but
 KILL to the program, it sees the end of its keys, and ends as it does there.
 """
 import os

@@ -1,4 +1,4 @@
-"""Programs in which one allocation of a run fails, and what stands behind a run of them."""
+"""Programs in which one allocation of a run fails, and what stands after a run of them."""
 import os
 import re
 import subprocess

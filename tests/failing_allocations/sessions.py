@@ -4,8 +4,8 @@ END = b"\r\n"
 NO_MEMORY = b"?No memory" + END
 STATUS = 6
 CONTROL_Z = b"\x1a"
-# Where the program finds no memory to begin with it says nothing, and where it finds none for its words these are too many.
-UNSAID, SAID = (STATUS, b"", None), (STATUS, NO_MEMORY, None)
+SAID = (STATUS, NO_MEMORY, None)
+# Where the program finds no memory for its words these are too many.
 USAGES = {
     "exec20": b"Usage: exec20 [-w] IN OUT | exec20 [-w] -n OUT | exec20 -g N", "spool20": b"Usage: spool20 IN OUT",
     "batch20": b"Usage: batch20 IN OUT FILE", "mm20": b"Usage: mm20 IN OUT",
@@ -13,17 +13,16 @@ USAGES = {
 
 
 class Point:
-    """What must stand where memory is wanting at one place of a run, and whether memory is asked for there for sure: a
+    """What must stand where memory runs out at one place of a run, and whether memory is asked for there for sure: a
     BUILD, say, asks only where the directories have no room."""
 
     def __init__(self, name, stands, asks=True):
         self.name, self.stands, self.asks = name, stands, asks
 
 
-def before_all(program):
-    """The places before anything of a session is done: its words, and what `main` makes."""
-    words = Point("the words", (1, USAGES[program] + END, None))
-    return [words] if program == "spool20" else [words, Point("to begin with", UNSAID)]
+def of_words(program):
+    """The place before anything of a session is done: its words."""
+    return Point("the words", (1, USAGES[program] + END, None))
 
 
 class Step:
@@ -44,8 +43,8 @@ class Typed:
         return b"".join(step.keys for step in self.steps)
 
     def points(self, program):
-        """Each place where memory may be wanting, in order, behind those before the first prompt."""
-        points = [*before_all(self.program), Point("before the first prompt", SAID)]
+        """Each place where memory may run out, in order, after those before the first prompt."""
+        points = [of_words(self.program), Point("before the first prompt", SAID)]
         for number, step in enumerate(self.steps):
             if step.asks is not None:
                 points += self.points_of(program, b"".join(it.keys for it in self.steps[:number]), step)
@@ -71,8 +70,8 @@ class Typed:
             if line:
                 prompt = self.shown(program, keys)[0]
                 keys += line + b"\r"
-                behind, image = self.shown(program, keys)
-                screen += behind[len(prompt) + len(line) + len(END):-1]
+                after, image = self.shown(program, keys)
+                screen += after[len(prompt) + len(line) + len(END):-1]
         return points
 
 
@@ -93,9 +92,9 @@ class Controlled:
                 + b"F OPERATOR JOB.CTL.1 U 1 0 - %d\n%b\nE\n" % (len(held), held))
 
     def points(self, program):
-        """Each place where memory may be wanting: while IN is read, for the lines and labels, and at a line that acts."""
+        """Each place where memory may run out: while IN is read, for the lines and labels, and at a line that acts."""
         control = self.image_of(self.lines).split(b"F OPERATOR JOB.CTL.1")[1].split(b"\nE\n")[0]
-        points = [*before_all(self.program), Point("in reading", SAID)]
+        points = [of_words(self.program), Point("in reading", SAID)]
         shown = b""
         for number, (line, asks) in enumerate([(b"", True), *self.lines]):
             before = self.lines[:max(number - 1, 0)]
@@ -117,7 +116,7 @@ def unstamp(record):
 
 
 class Printed:
-    """A print queue that is printed: memory is asked for while the image is read, and not behind that."""
+    """A print queue that is printed: memory is asked for while the image is read, and not after that."""
 
     def __init__(self, name, image):
         self.name, self.program, self.words, self.image = name, "spool20", ["IN", "OUT"], image
@@ -126,7 +125,7 @@ class Printed:
         return b""
 
     def points(self, program):
-        return [*before_all(self.program), Point("in reading", SAID)]
+        return [of_words(self.program), Point("in reading", SAID)]
 
 
 def files(*held):

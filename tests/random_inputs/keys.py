@@ -42,7 +42,7 @@ def typed(chance, names):
 
 
 def keys(chance, names=(), ends=True):
-    """The keys of a session. LOGOUT is rare, as nothing is looked at behind it."""
+    """The keys of a session. LOGOUT is rare, as nothing is looked at after it."""
     made = b"".join(typed(chance, names) for _ in range(chance.choice((1, 5, 20, 100))))
     return made + b"\rLOGOUT\r" if ends and chance.random() < 0.1 else made
 

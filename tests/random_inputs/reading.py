@@ -21,7 +21,7 @@ FILE_FORMS = {
     2: re.compile(rb"F (%b) %b [DU] (%b) (%b) (%b|-) (%b)" % (DIRECTORY, FILE, NUMBER, NUMBER, NUMBER, NUMBER)),
 }
 HEADS = {b"EXEC20 1": 1, b"EXEC20 2": 2}
-BEHIND = {b"": b"D", b"D": b"DC", b"C": b"LFQE", b"L": b"LFQE", b"F": b"FQE", b"Q": b"QE"}
+NEXT = {b"": b"D", b"D": b"DC", b"C": b"LFQE", b"L": b"LFQE", b"F": b"FQE", b"Q": b"QE"}
 MOST = {b"D": 64, b"L": 64, b"F": 4_096, b"Q": 64}
 FILE_LIMIT, STORE_LIMIT, LAST_MOMENT, LAST_DAY = 65_536, 8_388_608, 4_102_444_799, 47_481
 LAST_GENERATION, RETENTION, COPIES = 131_071, 63, 63
@@ -41,7 +41,7 @@ class Reading:
     def form(self, line):
         """The fields of a line, where it may stand here."""
         kind = line[:1]
-        if not kind or kind not in [bytes([it]) for it in BEHIND[self.last]]:
+        if not kind or kind not in [bytes([it]) for it in NEXT[self.last]]:
             raise Fault("Form")
         form = FILE_FORMS[self.version] if kind == b"F" else FORMS[kind]
         fields = form.fullmatch(line)
@@ -97,12 +97,12 @@ def fault_of(image):
     reading, place = None, 0
     while True:
         try:
-            reading, behind = record_at(image, place, reading)
+            reading, after = record_at(image, place, reading)
         except Fault as fault:
             return place, str(fault)
-        if behind is None:
+        if after is None:
             return None
-        place = behind
+        place = after
 
 
 def record_at(image, place, reading):
@@ -120,12 +120,12 @@ def record_at(image, place, reading):
             raise Fault("Form")
         return Reading(HEADS[line]), end + 1
     kind, fields = reading.form(line)
-    behind = end + 1
+    after = end + 1
     if kind == b"F":
-        behind = end + 2 + int(fields[fields.re.groups])
-        if behind > len(image):
+        after = end + 2 + int(fields[fields.re.groups])
+        if after > len(image):
             raise Fault("Cut")
-        if image[behind - 1] != 10:
+        if image[after - 1] != 10:
             raise Fault("Form")
     reading.take(kind, fields)
-    return reading, behind
+    return reading, after
