@@ -1,5 +1,5 @@
 -- The sum, what a command makes of it, and what it shows.
-use Rattle.std.specs.Prelude.{ℕ, ◌+◌, ◌-◌, nat_le, if◌then◌else◌, List, [], ◌++◌}
+use Rattle.std.specs.Prelude.{ℕ, ◌+◌, ◌-◌, nat_le, if◌then◌else◌, List, [], ◌++◌, codes}
 use Rattle.std.specs.Fmt.{decimal}
 use Rattle.cm_text.specs.ScreenBytes.{end_of_line}
 use Rattle.eg_template.specs.declared.act.Command.{Command}
@@ -19,7 +19,14 @@ obeyed command sum = sum
 unfoldable pub sum_text : ℕ → List ℕ
 sum_text sum = decimal sum ++ end_of_line
 
--- what a command shows: ADD the sum
+unfoldable pub too_large : List ℕ
+too_large = codes "?The sum is too large"
+
+-- what ADD shows: the sum, or that it would be too large
+abbrev pub answer : ℕ → ℕ → List ℕ
+answer number sum = if nat_le number (MOST - sum) then sum_text (sum_with number sum) else too_large ++ end_of_line
+
+-- what a command shows
 abbrev pub reply : Command → ℕ → List ℕ
-reply (commands.Add number) sum = sum_text (sum_with number sum)
+reply (commands.Add number) sum = answer number sum
 reply command sum = []

@@ -3,7 +3,7 @@ ghost use Rattle.std.specs.Prelude.{◌≡◌, ◌≤◌};
 ghost use Rattle.cm_io.specs.Fault.{PutCause};
 ghost use Rattle.cm_io.specs.Contents.{Adds};
 ghost use Rattle.cm_io.specs.Writer.{Writes};
-ghost use Rattle.eg_template.specs.Sum.{obeyed, reply, sum_text, sum_with};
+ghost use Rattle.eg_template.specs.Sum.{answer, obeyed, reply, sum_text, sum_with};
 
 use cm_io::{Put, Sink, Writer};
 use cm_text::end_of_line;
@@ -22,7 +22,8 @@ pub enum Command {
     Quit,
 }
 
-/// Does what a command says, and shows its reply. It acts also where the screen fails.
+/// Does what a command says, and shows its reply, which ADD has: the sum, or that it would be too large, and then it
+/// stays. It acts also where the screen fails.
 pub fn obey<S: Sink>(command: Command, sum: &mut u64, screen: &mut S) -> Put
     ensures sum { sum.new ≡ obeyed command sum.old }
     ensures reply { Adds (S.contents screen.old) (S.contents screen.new) (reply command sum.old) result }
@@ -63,9 +64,21 @@ fn put_reply<S: Sink>(command: Command, sum: u64, out: &mut Writer<'_, S>)
     ensures { Writes S.Sink out.old out.new (reply command sum) }
 {
     match command {
-        Command::Add(number) => put_sum(sum_with(number, sum), out),
+        Command::Add(number) => put_answer(number, sum, out),
         Command::Quit => {}
         Command::Nothing => {}
+    }
+}
+
+// Shows the sum with a number more, or that it would be too large.
+#[tactic(auto, unfolding(crate::specs::Sum::too_large))]
+fn put_answer<S: Sink>(number: u64, sum: u64, out: &mut Writer<'_, S>)
+    ensures { Writes S.Sink out.old out.new (answer number sum) }
+{
+    if number <= MOST - sum {
+        put_sum(sum_with(number, sum), out);
+    } else {
+        out.put_line(b"?The sum is too large");
     }
 }
 

@@ -5,7 +5,7 @@ ghost use Rattle.std.specs.Prelude.{◌≡◌, ◌<◌};
 
 use cm_blocks::Steps;
 use cm_io::{Sink, Source, StdSink, StdSource};
-use cm_run::{Stop, status_of};
+use cm_run::{Stop, run_line_program, status_of};
 use eg_template::Program;
 use eg_template::grammar::grammar;
 use std::marker::Brand;
@@ -43,5 +43,5 @@ fn run<K: Source, S: Sink, L: Ledger>(
         return Err(Stop::Memory);
     };
     let mut steps: Steps<L> = Steps::new(rt, blank);
-    program.run(&grammar, keys, screen, &mut steps)
+    run_line_program(program, &grammar, keys, screen, &mut steps)
 }
