@@ -59,8 +59,8 @@ dated day (Some month) year =
     if not (is_number 1 2 day) || not (is_number 2 4 year) || digits_value 10 day == 0 then Err BadDate
     else day_in (year_of year) month (digits_value 10 day)
 
--- what a run says as a date: its day stands before its first hyphen, its month before the next, and its year after
--- that; so a hyphen too few leaves a part empty, and one too many stands in the year
+-- what a run says as a date: its day is before its first hyphen, its month before the next, and its year after
+-- that; so a hyphen too few leaves a part empty, and one too many is in the year
 unfoldable pub date_of : List ℕ → Result Value Code
 date_of run =
     let more = after_first is_hyphen run in

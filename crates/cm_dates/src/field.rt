@@ -63,7 +63,7 @@ fn split(run: &[u8]) -> (&[u8], &[u8])
     }
 }
 
-// How many bytes stand before the first hyphen.
+// How many bytes are before the first hyphen.
 fn part_size(run: &[u8]) -> usize
     ensures value { result ≡ position_or_len is_hyphen run.now }
     ensures within { result ≤ length run.now }

@@ -1,4 +1,4 @@
--- Where a field begins: the walk over the bytes, and what stands there.
+-- Where a field begins: the walk over the bytes, and what is there.
 use Rattle.std.proofs.Common.{◌≡◌, ◌≢◌, ℕ, ◌+◌, ◌≤◌, Bool, true, false, ◌==◌, inl, inr, List, [], ◌∷◌, ◌++◌, length, drop, Option, Some, None, refl, subst, sym, ap, ◌∙◌, arith, append-nil, append_assoc, length-append, length-drop}
 use Rattle.std.proofs.lemmas.List.{drop-append-le}
 use Rattle.std.proofs.lemmas.Bool.{cond_both, eqb-false, eqb-true, ne_eqb}
@@ -21,7 +21,7 @@ end_is_no_blank : is_blank 13 ≡ false
 unfolding is_blank
 end_is_no_blank = refl
 
--- from what stands there to the walk
+-- from what is there to the walk
 
 through_mark : (raw : Bool) (at : ℕ) (inside rest : List ℕ) → HasNoMark inside
     → skip_from raw ToMark at (inside ++ 33 ∷ rest) ≡ skip_from raw Outside (at + length inside + 1) rest
@@ -137,7 +137,7 @@ skip_of_open raw text at open_comment =
     ∙ goes_past raw open_comment.after at open_comment.bytes open_comment.passed
     ∙ never_ends raw (at + length open_comment.bytes) open_comment.after open_comment.has_comments open_comment.unended
 
--- from the walk to what stands there
+-- from the walk to what is there
 
 abbrev FoundAt : Bool → List ℕ → ℕ → Option ℕ → Type 0
 FoundAt raw rest at None = IsOpen raw rest

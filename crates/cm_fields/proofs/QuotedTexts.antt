@@ -41,7 +41,7 @@ quote_passed size written (byte ∷ next ∷ more) some quote second =
     let rest : take (length (byte ∷ next ∷ more) - 2) more ≡ more = take_all _ more (omega arith) in
     rw (quote, second, rest)
 
--- what is found stands after at least so many bytes
+-- what is found is after at least so many bytes
 abbrev IsAfter : ℕ → Closing → Type 0
 IsAfter least (Closed size written) = least ≤ size
 IsAfter least (Cut size) = least ≤ size
@@ -251,7 +251,7 @@ by_closing_ends at place (Closed size written) closes =
 by_closing_ends at place (Cut size) closes = tt
 by_closing_ends at place Unknown closes = tt
 
--- a text that wants more and that a space closes ends with what stands before the space
+-- a text that wants more and that a space closes ends with what is before the space
 pub quoted_ends : (rest : List ℕ) (at : ℕ) → quoted rest at ≡ More → QuotedAt (at + length rest) (quoted (rest ++ 32 ∷ []) at)
 quoted_ends [] at is = tt
 quoted_ends (byte ∷ inside) at is = by (byte == 34) is

@@ -1,4 +1,4 @@
--- What stands before a field, blanks and whole comments, as a grammar: no walk over the bytes.
+-- What is before a field, blanks and whole comments, as a grammar: no walk over the bytes.
 use Rattle.std.specs.Prelude.{ℕ, ◌≡◌, ◌≢◌, ◌+◌, Bool, true, false, ◌⊎◌, List, [], ◌∷◌, ◌++◌, length}
 use Rattle.std.specs.List.{AllByRecursion}
 use Rattle.cm_text.specs.Bytes.{is_blank}
@@ -28,7 +28,7 @@ pub data ArePassed (raw : Bool) (after : List ℕ) : List ℕ → Type 0 where
   to_end : (inside : List ℕ) → raw ≡ false → HasNoEnd inside → EndsLine after
       → ArePassed raw after (59 ∷ inside)
 
--- neither a blank nor the begin of a comment stands here
+-- neither a blank nor the begin of a comment is here
 abbrev pub BeginsOther : Bool → List ℕ → Type 0
 BeginsOther raw [] = Unit {0}
 BeginsOther raw (byte ∷ rest) = (is_blank byte ≡ false) × (raw ≡ false → (byte ≢ 33) × (byte ≢ 59))
@@ -38,7 +38,7 @@ abbrev pub IsUnended : List ℕ → Type 0
 IsUnended [] = ⊥
 IsUnended (byte ∷ inside) = ((byte ≡ 33) × HasNoMark inside) ⊎ ((byte ≡ 59) × HasNoEnd inside)
 
--- of a text from one place on: up to another are blanks and whole comments, and neither stands after them
+-- of a text from one place on: up to another are blanks and whole comments, and neither is after them
 pub record IsPast (raw : Bool) (rest : List ℕ) (at place : ℕ) : Type 0 where
   pub bytes : List ℕ
   pub after : List ℕ

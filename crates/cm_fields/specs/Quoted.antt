@@ -15,7 +15,7 @@ abbrev pub is_cut : ℕ → Bool
 is_cut byte = byte == 13 || byte == JOIN
 
 -- how the text after the opening quote goes on, after so many bytes of it, which write so many: the closing
--- quote stands there; the line or its row ends there; or the text ends before that is known
+-- quote is there; the line or its row ends there; or the text ends before that is known
 abbrev pub closing : ℕ → ℕ → List ℕ → Closing
 closing size written [] = Unknown
 closing size written (byte ∷ []) = if is_cut byte then Cut size else Unknown
@@ -25,7 +25,7 @@ closing size written (byte ∷ next ∷ more) =
     then (if next == 34 then closing (size + 2) (written + 1) more else Closed size written)
     else closing (size + 1) (written + 1) (next ∷ more))
 
--- what is found stands within so many bytes
+-- what is found is within so many bytes
 abbrev pub IsWithin : ℕ → Closing → Type 0
 IsWithin most (Closed size written) = size + 2 ≤ most
 IsWithin most (Cut size) = size + 1 ≤ most
@@ -45,7 +45,7 @@ abbrev pub quoted : List ℕ → ℕ → Try
 quoted [] at = More
 quoted (byte ∷ rest) at = if byte == 34 then by_closing at (closing 0 0 rest) else Refuse NotQuoted 1
 
--- what is said by what stands between the outer quotes: a quote that stands twice is one
+-- what is said by what is between the outer quotes: a quote that stands twice is one
 abbrev pub unquoted : List ℕ → List ℕ
 unquoted [] = []
 unquoted (byte ∷ []) = byte ∷ []

@@ -10,7 +10,7 @@ use Rattle.cm_fields.specs.Try.{by_run, span}
 abbrev pub is_inside : ℕ → Bool
 is_inside byte = not (byte == 13)
 
--- whatever stands there, from this place on
+-- whatever is there, from this place on
 abbrev pub text_of : ℕ → List ℕ → Result Value Code
 text_of at run = Ok (Text (span at (length run)))
 

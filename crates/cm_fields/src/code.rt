@@ -20,7 +20,7 @@ pub enum Code {
     NotSwitch,
     /// A switch that takes a value has no colon after it.
     NeedColon,
-    /// What stands in parentheses is no beginning of the guide word, or they are not closed.
+    /// What is in parentheses is no beginning of the guide word, or they are not closed.
     BadNoise,
     /// There is no word where a number is due, or one that is not digits alone.
     BadNumber,
@@ -34,7 +34,7 @@ pub enum Code {
     NotQuoted,
     /// The line ends in a quoted text.
     NoQuote,
-    /// Another text stands where a fixed one is due.
+    /// Another text is where a fixed one is due.
     NotToken,
     /// The word is no date, or its month has no such day.
     BadDate,
@@ -44,9 +44,9 @@ pub enum Code {
     SpecShape,
     /// A part of a file specification has more than 39 bytes.
     NameLong,
-    /// The generation is no generation, or none that may stand here.
+    /// The generation is no generation, or none that may be here.
     GenRange,
-    /// A wildcard stands where none may.
+    /// A wildcard is where none may.
     WildHere,
     /// The device holds no files.
     Device,
@@ -60,7 +60,7 @@ pub enum Code {
     NoFile,
     /// There is no comma where one is due.
     NotComma,
-    /// More stands where the line is to end.
+    /// More is where the line is to end.
     NotConfirmed,
     /// A function of the program's own has refused the value, and gives no reason.
     Rejected,

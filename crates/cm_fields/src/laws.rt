@@ -34,8 +34,8 @@ pub fn skip_stays()
         → skip raw text at ≡ Some place → place < length text → skip raw (text ++ more) at ≡ Some place }
 {}
 
-/// Skip gives a place exactly where blanks and whole comments reach to it and neither stands after them, and
-/// none exactly where a comment stands after them that nothing ends.
+/// Skip gives a place exactly where blanks and whole comments reach to it and neither is after them, and
+/// none exactly where a comment is after them that nothing ends.
 pub fn skip_passes_blanks_and_comments()
     ensures past { (raw : Bool) → (text : List ℕ) → (at : ℕ) → (place : ℕ)
         → skip raw text at ≡ Some place → IsPast raw (drop at text) at place }

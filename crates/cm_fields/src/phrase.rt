@@ -7,7 +7,7 @@ use crate::trial::said;
 use crate::{Code, Try, Value};
 use cm_text::{TEXT_LIMIT, begins_with};
 
-// How many bytes stand before a closing parenthesis or the end of the line.
+// How many bytes are before a closing parenthesis or the end of the line.
 fn inside_run(inside: &[u8]) -> usize
     ensures value { result ≡ prefix_len is_inside inside.now }
     ensures within { result ≤ length inside.now }
@@ -31,7 +31,7 @@ fn same_letters(phrase: &[u8], rest: &[u8]) -> usize
         .count()
 }
 
-// What stands after an opening parenthesis.
+// What is after an opening parenthesis.
 #[tactic(auto, unfolding(crate::specs::Phrase::typed_noise))]
 fn typed_noise(phrase: &str, inside: &[u8], at: usize) -> Try
     requires { at + length inside.now ≤ TEXT_LIMIT }
@@ -51,7 +51,7 @@ fn typed_noise(phrase: &str, inside: &[u8], at: usize) -> Try
 }
 
 /// A guide word (.CMNOI): a beginning of the phrase in parentheses. Where no parenthesis stands it is absent,
-/// and the field has no bytes. Refused with BadNoise where something else stands in the parentheses, or the
+/// and the field has no bytes. Refused with BadNoise where something else is in the parentheses, or the
 /// line ends in them.
 pub fn noise(phrase: &str, text: &[u8], at: usize) -> Try
     requires short { length text.now ≤ TEXT_LIMIT }

@@ -9,7 +9,7 @@ use cm_text::{JOIN, NAME_LIMIT, Name, TEXT_LIMIT};
 
 // How the text after an opening quote goes on.
 enum Closing {
-    // The closing quote stands after so many bytes, which write so many.
+    // The closing quote is after so many bytes, which write so many.
     Closed { size: usize, written: usize },
     // The line, or a row of it, ends after so many bytes.
     Cut(usize),
@@ -71,7 +71,7 @@ pub fn quoted(text: &[u8], at: usize) -> Try
     }
 }
 
-/// What a quoted text says (.CMQST), of what stands between its outer quotes, as the span of its value gives it: a
+/// What a quoted text says (.CMQST), of what is between its outer quotes, as the span of its value gives it: a
 /// quote that stands twice is one. At most 39 bytes of it, and a quoted text that is taken says no more.
 pub fn unquoted(text: &[u8]) -> Name
     requires { IsAscii text.now }

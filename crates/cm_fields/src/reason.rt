@@ -17,7 +17,7 @@ pub const OWN_NUMBER: u8 = 128;
 pub struct Reason {
     number: u8,
     size: u8,
-    // Zeros stand after the text.
+    // Zeros are after the text.
     bytes: [u8; NAME_LIMIT],
 }
 

@@ -6,7 +6,7 @@ ghost use Rattle.cm_fields.specs.Skip.{ended, passed, skip};
 
 use cm_text::is_blank;
 
-// Whether a byte stands in a comment, and what ends that.
+// Whether a byte is in a comment, and what ends that.
 #[derive(Clone, Copy)]
 enum Comment {
     // In none.
@@ -31,7 +31,7 @@ fn passed(raw: bool, comment: Comment, byte: u8) -> Option<Comment>
     }
 }
 
-// How many blanks stand in front.
+// How many blanks are in front.
 fn blank_run(rest: &[u8]) -> usize
     ensures value { result ≡ prefix_len is_blank rest.now }
     ensures within { result ≤ length rest.now }

@@ -14,7 +14,7 @@ fn has_end(rest: &[u8]) -> bool
     rest.contains(&b'\r')
 }
 
-// How many bytes stand before the end of the line.
+// How many bytes are before the end of the line.
 fn inside_run(rest: &[u8]) -> usize
     ensures value { result ≡ prefix_len is_inside rest.now }
     ensures within { result ≤ length rest.now }
@@ -22,7 +22,7 @@ fn inside_run(rest: &[u8]) -> usize
     rest.iter().take_while(|byte| **byte != b'\r').count()
 }
 
-// What stands there, from this place on.
+// What is there, from this place on.
 fn text_of(at: usize, run: &[u8]) -> Result<Value, Code>
     requires { at + length run.now < 2 ^ 16 }
     ensures { result ≡ text_of at run.now }

@@ -1,4 +1,4 @@
-// Cases of tests, each a line whose parts stand between bars.
+// Cases of tests, each a line whose parts are between bars.
 use std::process::Abort;
 
 // The part of a case at a position.

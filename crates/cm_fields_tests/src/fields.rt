@@ -321,7 +321,7 @@ fn takes_quoted_texts(rt: HostRuntime) -> Result<(), Fail> {
     tries(&rt, rt.alloc(), Trial::Quoted, QUOTED_TEXTS)
 }
 
-// What stands between the quotes, and what it says.
+// What is between the quotes, and what it says.
 const UNQUOTED: &str = "\
 |
 Note 1|Note 1

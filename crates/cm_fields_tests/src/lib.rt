@@ -1,5 +1,5 @@
 //! Tests of the crates below the grammar, from texts to hooks. The cases of a test are a text with a line a case: what
-//! goes in, and what is wanted, stand between bars.
+//! goes in, and what is wanted, are between bars.
 #![tactic(auto)]
 
 #[cfg(test)]

@@ -156,7 +156,7 @@ fn standard_streams(rt: HostRuntime) {
 
 #[test]
 fn system_clock(rt: HostRuntime) {
-    let [first, _, last] = three_moments(&mut StdClock::new(&rt));
+    let [first, _, last] = three_moments(&mut StdClock { rt });
     assert!(rt; first > 1577836800, "after 2020");
     assert!(rt; first <= last);
 }

@@ -21,7 +21,7 @@ fn entry(text: &str, flag: Flag) -> Entry
     }
 }
 
-// What stands after the colon of a keyword: its flag, or the position of the entry that it stands for.
+// What is after the colon of a keyword: its flag, or the position of the entry that it stands for.
 fn flag_of(rt: &impl Abort, word: &str) -> Flag {
     match word {
         "" => Flag::Plain,

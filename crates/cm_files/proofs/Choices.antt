@@ -69,7 +69,7 @@ downward =
       either = λ (a b : ℕ). upward.either b a;
     }
 
--- each of the rows stands below this generation
+-- each of the rows is below this generation
 abbrev are_below : (ℕ → ℕ → Bool) → ℕ → List FileRow → Bool
 are_below below most rows = list_all (λ row. below row.generation most) rows
 
@@ -80,7 +80,7 @@ all_below below order less most (row ∷ rows) under all =
     and_from _ _ (order.chain row.generation less most (and_parts _ _ all).0 under)
     (all_below below order less most rows under (and_parts _ _ all).1)
 
--- the row of those that pass that none of them stands above
+-- the row of those that pass that none of them is above
 record Best (below : ℕ → ℕ → Bool) (test : FileRow → Bool) (rows : List FileRow) : Type 0 where
   row : FileRow
   passes : test row ≡ true

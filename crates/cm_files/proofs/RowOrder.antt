@@ -22,7 +22,7 @@ by_file_total =
     (then_total (on_texts (λ (row : FileRow). row.name))
     (then_total (on_texts (λ (row : FileRow). row.kind)) (on_total (λ (row : FileRow). row.generation) nat_cmp_total)))
 
--- a list whose every element stands below all after it
+-- a list whose every element is below all after it
 abbrev all_above : FileRow → List FileRow → Bool
 all_above row rows = list_all (λ other. is_lt (by_file row other)) rows
 
@@ -76,7 +76,7 @@ by_rest row other =
 pub text_itself : (text : List ℕ) → by_bytes text text ≡ Equal
 text_itself text = equal_from_reverse (by_bytes text text) (nat_list_cmp_total.antisymm text text)
 
--- each row of a directory stands below those after it
+-- each row of a directory is below those after it
 pub rows_ascend : (c : Catalogue) → IsCatalogue c → (directory i j : ℕ) (row other : FileRow) → i < j
     → slice_get (rows_of c directory) i ≡ Some row → slice_get (rows_of c directory) j ≡ Some other → by_rest row other ≡ Less
 rows_ascend c lawful directory i j row other below is is_other =
@@ -99,7 +99,7 @@ lower_generation row other name kind less =
     let first = subst (λ (o : Ordering). ordering_then o (ordering_then (by_bytes row.kind other.kind) generations) ≡ Less) names less in
     nat_cmp_less row.generation other.generation (subst (λ (o : Ordering). ordering_then o generations ≡ Less) kinds first)
 
--- what stands between two rows of one name and type has that name and type
+-- what is between two rows of one name and type has that name and type
 pub between : (row middle other : FileRow) → by_rest row middle ≡ Less → by_rest middle other ≡ Less
     → other.name ≡ row.name → other.kind ≡ row.kind → (row.name ≡ middle.name) × (row.kind ≡ middle.kind)
 between row middle other less after name kind =

@@ -25,7 +25,7 @@ use Rattle.cm_files.specs.declared.parts.Read.{Read}
 use Rattle.cm_files.specs.Spec.{are_parts, device_read, directory_read, generation_of, is_long, is_path, is_pattern, name_read, nothing_read, part, part_read, parts_after, parts_of, pointed_read, read_spec, stands_at}
 use Rattle.cm_files.proofs.Fronts.{stands_within}
 
--- a mark that does not stand in a text
+-- a mark that is not in a text
 abbrev pub lacks : ℕ → List ℕ → Type 0
 lacks mark text = list_any (λ other. other == mark) text ≡ false
 
@@ -48,7 +48,7 @@ stands_inside : (text more : List ℕ) (place mark : ℕ) → place < length tex
 stands_inside text more place mark within =
     ap (λ found. option_map_or (λ other. other == mark) found false) (slice_get-append_left text more place within)
 
--- what stands at a place, and after it
+-- what is at a place, and after it
 pub stands_first : (text : List ℕ) (place first : ℕ) (rest : List ℕ) (mark : ℕ) → drop place text ≡ first ∷ rest
     → stands_at text place mark ≡ (first == mark)
 stands_first [] zero first rest mark is = cc
@@ -62,7 +62,7 @@ stands_end [] place mark is = refl
 stands_end (byte ∷ text) zero mark is = cc
 stands_end (byte ∷ text) (suc place) mark is = stands_end text place mark is
 
--- what is said of the device, by how many name bytes there are and whether a colon stands after them
+-- what is said of the device, by how many name bytes there are and whether a colon is after them
 abbrev device_by : ℕ → Bool → Read
 device_by size stands = if nat_lt 0 size && stands then part_read 0 size (size + 1) else nothing_read 0
 
@@ -200,7 +200,7 @@ stops_at_point : (rest : List ℕ) → prefix_len is_pattern (46 ∷ rest) ≡ 0
 unfolding is_name is_word
 stops_at_point rest = refl
 
--- a name, a type and a generation that may stand after a directory
+-- a name, a type and a generation that may be after a directory
 pub record Full (name kind number : List ℕ) : Type 0 where
   pub some : 0 < length name
   pub name_short : length name ≤ NAME_LIMIT

@@ -61,7 +61,7 @@ whole_part (mark ∷ part) (byte ∷ name) plain =
     ∙ ap (λ b. b && (length part == length name)) (sym (fits_more mark byte part name))
     ∙ ap (λ b. fits (mark ∷ part) (byte ∷ name) && b) (eq-suc (length part) (length name)))
 
--- an end of what stands after more bytes is an end of what stands after fewer
+-- an end of what is after more bytes is an end of what is after fewer
 end_of_more : (test : List ℕ → Bool) (size byte : ℕ) (name : List ℕ)
     → some_end test (drop size name) ≡ true → some_end test (drop size (byte ∷ name)) ≡ true
 end_of_more test zero byte name is = or_right (test (byte ∷ name)) _ is
@@ -146,7 +146,7 @@ no_place part more at (byte ∷ name) found = by (fits part (byte ∷ name)) fou
     by true found rest = absurd (cc)
     by false found rest = rest found
 
--- where one more byte stands before a name, a part that is no longer than the name ends it alike
+-- where one more byte is before a name, a part that is no longer than the name ends it alike
 ends_shorter : (part name : List ℕ) (byte : ℕ) → length part ≤ length name → ends_like part (byte ∷ name) ≡ ends_like part name
 ends_shorter part name byte short =
     let size : suc (length name) - length part ≡ suc (length name - length part) = omega arith in

@@ -29,7 +29,7 @@ pub record ReadAs (atom : List ℕ) (spec : Spec) : Type 0 where
   pub spec_name : spec.name ≡ name.part
   pub spec_kind : spec.kind ≡ (pointed_read atom name.next).part
 
--- the parts come from what stands after device, directory and name
+-- the parts come from what is after device, directory and name
 record PartsAs (atom : List ℕ) (parts : Parts) : Type 0 where
   directory : Read
   name : Read
@@ -267,7 +267,7 @@ cut_kind atom spec r place some =
     named.cut ∙ ap (λ (rest : List ℕ). part_or_nothing atom r.name.part ++ rest) pointed.cut
     ∙ ap (λ (name : Option Span). part_or_nothing atom name ++ 46 ∷ (part atom place ++ drop place.end atom)) (sym r.spec_name)
 
--- after the type a point stands where one byte is left
+-- after the type a point is where one byte is left
 pub cut_point : (atom : List ℕ) (spec : Spec) (r : ReadAs atom spec) (place : Span) → spec.kind ≡ Some place
     → place.end + 1 ≡ length atom → drop place.end atom ≡ 46 ∷ []
 cut_point atom spec r place some end = by (stands_at atom place.end 46) refl

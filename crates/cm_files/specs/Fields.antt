@@ -20,7 +20,7 @@ use Rattle.cm_files.specs.Catalogue.{Catalogue}
 use Rattle.cm_files.specs.Resolve.{by_device, by_directory, has_wild, refuse, resolve, then_in}
 use Rattle.cm_files.specs.Spec.{is_path, read_spec, stands_at}
 
--- a byte that may stand in a file specification
+-- a byte that may be in a file specification
 abbrev pub is_file : ℕ → Bool
 is_file byte = is_path byte || byte == 58 || byte == 60 || byte == 62
 
@@ -111,11 +111,11 @@ abbrev pub user_or_refused : Option ℕ → Result Value Code
 user_or_refused None = Err NoUser
 user_or_refused (Some directory) = Ok (values.User directory)
 
--- what a run says as a user, whether a colon stands after it: a device is none
+-- what a run says as a user, whether a colon is after it: a device is none
 unfoldable pub user_of : Catalogue → Bool → List ℕ → Result Value Code
 user_of c has_colon run = refuse has_colon NoUser (user_or_refused (user_named c run))
 
--- a colon stands after such a name
+-- a colon is after such a name
 abbrev pub has_colon_after : List ℕ → Bool
 has_colon_after rest = stands_at rest (prefix_len is_plain_path rest) 58
 

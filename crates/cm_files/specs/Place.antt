@@ -1,4 +1,4 @@
--- Where a part of a pattern between two `*` stands in a name.
+-- Where a part of a pattern between two `*` is in a name.
 use Rattle.std.specs.Prelude.{ℕ, ◌+◌, ◌-◌, ◌==◌, ◌&&◌, nat_le, Bool, if◌then◌else◌, List, [], ◌∷◌, length, drop, Option, Some, None}
 use Rattle.std.specs.List.{common_prefix_len}
 use Rattle.cm_files.specs.Pattern.{stands_for}

@@ -56,7 +56,7 @@ is_bad_generation Out Highest = true
 is_bad_generation Out Lowest = true
 is_bad_generation kind generation = false
 
--- a wildcard that may not stand in a file that is written: such a name is copied whole or given whole
+-- a wildcard that may not be in a file that is written: such a name is copied whole or given whole
 abbrev pub has_bad_copy : FileKind → List ℕ → Spec → Bool
 has_bad_copy In atom spec = false
 has_bad_copy Any atom spec = false

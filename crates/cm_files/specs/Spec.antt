@@ -27,7 +27,7 @@ is_pattern byte = is_name byte || is_wild byte
 abbrev pub is_path : ℕ → Bool
 is_path byte = is_pattern byte || byte == 46
 
--- this byte stands at a place
+-- this byte is at a place
 abbrev pub stands_at : List ℕ → ℕ → ℕ → Bool
 stands_at atom place byte = option_map_or (λ other. other == byte) (slice_get atom place) false
 
@@ -57,7 +57,7 @@ directory_read atom at =
     then Some (part_read (at + 1) size (at + size + 2)) else None)
     else Some (nothing_read at)
 
--- the name; nothing of it where the atom ends here, and none where another byte stands here
+-- the name; nothing of it where the atom ends here, and none where another byte is here
 abbrev pub name_read : List ℕ → ℕ → Option Read
 name_read atom at =
     let size = prefix_len is_pattern (drop at atom) in

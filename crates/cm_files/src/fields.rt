@@ -12,7 +12,7 @@ use crate::{Flags, Names, SpecFault, by_device, by_directory, read_spec, resolve
 use cm_fields::{Code, FileKind, Span, Spec, Try, Value, said};
 use cm_text::{LINE_LIMIT, TEXT_LIMIT, equals, is_name};
 
-// Whether a byte may stand in a file specification.
+// Whether a byte may be in a file specification.
 fn is_file(byte: u8) -> bool
     ensures { result ≡ is_file byte }
 {
@@ -27,7 +27,7 @@ fn file_run(text: &[u8]) -> usize
     text.iter().take_while(|byte| is_file(**byte)).count()
 }
 
-// Whether a byte may stand in the name of a directory.
+// Whether a byte may be in the name of a directory.
 fn is_plain_path(byte: u8) -> bool
     ensures { result ≡ is_plain_path byte }
 {
@@ -126,7 +126,7 @@ fn file_of<N: Names>(
     }
 }
 
-/// A file specification that stands at the beginning of `rest`, which is what a text has from the place `at`
+/// A file specification that is at the beginning of `rest`, which is what a text has from the place `at`
 /// on: the function `file`, for a caller that has split the text.
 pub fn file_after<N: Names>(kind: FileKind, flags: Flags, names: &N, rest: &[u8], at: u16) -> Try
     requires { at + length rest.now ≤ TEXT_LIMIT }
@@ -147,7 +147,7 @@ pub fn file_after<N: Names>(kind: FileKind, flags: Flags, names: &N, rest: &[u8]
 /// A file specification (.CMIFI, .CMOFI, .CMFIL): a run of name bytes, points, colons, angle brackets and
 /// wildcards. Refused with SpecShape, NameLong and GenRange where it is none, and where it means none for the
 /// first of these reasons: it has no name (SpecShape), a generation that cannot be read or written (GenRange),
-/// a wildcard that may not stand there (WildHere), the device TTY (Device), a device that is none (NoLogical),
+/// a wildcard that may not be there (WildHere), the device TTY (Device), a device that is none (NoLogical),
 /// a directory that is none (NoDirectory), and no file that is there to be read (NoFile).
 pub fn file<N: Names>(kind: FileKind, flags: Flags, names: &N, text: &[u8], at: usize) -> Try
     requires short { length text.now ≤ TEXT_LIMIT }
@@ -211,7 +211,7 @@ fn directory_of<N: Names>(new: bool, names: &N, at: u16, run: &[u8]) -> Result<V
     }
 }
 
-/// A directory that stands at the beginning of `rest`, which is what a text has from the place `at` on: the
+/// A directory that is at the beginning of `rest`, which is what a text has from the place `at` on: the
 /// function `directory`, for a caller that has split the text.
 pub fn directory_after<N: Names>(new: bool, names: &N, rest: &[u8], at: u16) -> Try
     requires { at + length rest.now ≤ TEXT_LIMIT }

@@ -3,7 +3,7 @@
 /// What a file specification may say, and what is meant where it says nothing.
 #[derive(Clone, Copy, Debug, Default, PartialEq, Eq)]
 pub struct Flags {
-    /// Wildcards may stand in its name, type and generation.
+    /// Wildcards may be in its name, type and generation.
     pub wild: bool,
     /// All generations are meant where none is given, in place of the highest.
     pub all_generations: bool,

@@ -31,7 +31,7 @@ fn mark_at<N: Names>(
     }
 }
 
-// Whether none of the rows seen of the file of this one stands after it.
+// Whether none of the rows seen of the file of this one is after it.
 #[tactic(auto, using(crate::proofs::Beside::walk_after))]
 fn is_top_at<N: Names>(names: &N, directory: u16, i: u32, sought: &Sought<'_>) -> bool
     requires directory { directory < length (N.catalogue names.now).directories }
@@ -53,7 +53,7 @@ fn is_top_at<N: Names>(names: &N, directory: u16, i: u32, sought: &Sought<'_>) -
     true
 }
 
-// Whether none of the rows seen of the file of this one stands before it.
+// Whether none of the rows seen of the file of this one is before it.
 #[tactic(auto, using(crate::proofs::Beside::walk_before))]
 fn is_bottom_at<N: Names>(names: &N, directory: u16, i: u32, sought: &Sought<'_>) -> bool
     requires directory { directory < length (N.catalogue names.now).directories }

@@ -1,4 +1,4 @@
-// Where the parts of a file specification stand in its text.
+// Where the parts of a file specification are in its text.
 ghost use Rattle.std.specs.Prelude.{◌≡◌, ◌+◌, ◌≤◌, IfSome, length};
 ghost use Rattle.std.specs.List.{prefix_len};
 ghost use Rattle.cm_text.specs.Bytes.{is_name};
@@ -24,7 +24,7 @@ struct Read {
     next: usize,
 }
 
-/// Whether this byte stands at a place.
+/// Whether this byte is at a place.
 pub(crate) fn stands_at(atom: &[u8], place: usize, byte: u8) -> bool
     ensures { result ≡ stands_at atom.now place byte }
 {
@@ -42,7 +42,7 @@ fn name_run(text: &[u8]) -> usize
     text.iter().take_while(|byte| is_name(**byte)).count()
 }
 
-// Whether a byte may stand in a name, a type or a generation.
+// Whether a byte may be in a name, a type or a generation.
 fn is_pattern(byte: u8) -> bool
     ensures { result ≡ is_pattern byte }
 {
@@ -57,7 +57,7 @@ fn pattern_run(text: &[u8]) -> usize
     text.iter().take_while(|byte| is_pattern(**byte)).count()
 }
 
-/// Whether a byte may stand in the name of a directory, wildcards among them.
+/// Whether a byte may be in the name of a directory, wildcards among them.
 pub(crate) fn is_path(byte: u8) -> bool
     ensures { result ≡ is_path byte }
 {

@@ -5,7 +5,7 @@ ghost use Rattle.std.specs.List.{common_prefix_len, prefix_len};
 ghost use Rattle.cm_files.specs.Pattern.{is_plain, matches, some_end, stands_for};
 ghost use Rattle.cm_files.specs.Place.{ends_like, fits, place_from, tries};
 
-// How many bytes of a pattern stand before its first `*`.
+// How many bytes of a pattern are before its first `*`.
 fn plain_run(pattern: &[u8]) -> usize
     ensures value { result ≡ prefix_len is_plain pattern.now }
     ensures within { result ≤ length pattern.now }

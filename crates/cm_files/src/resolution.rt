@@ -72,7 +72,7 @@ fn is_bad_generation(kind: FileKind, generation: Gen) -> bool
     }
 }
 
-// Whether a wildcard stands where none may in a file that is written.
+// Whether a wildcard is where none may in a file that is written.
 fn has_bad_copy(kind: FileKind, atom: &[u8], spec: Spec) -> bool
     requires { IsSpecOf (length atom.now) spec }
     ensures { result ≡ has_bad_copy kind atom.now spec }
@@ -88,7 +88,7 @@ fn has_bad_copy(kind: FileKind, atom: &[u8], spec: Spec) -> bool
     }
 }
 
-/// Whether a wildcard stands where none may: in a directory; in a name, a type or a generation, where the
+/// Whether a wildcard is where none may: in a directory; in a name, a type or a generation, where the
 /// flags do not allow them; in a file that is written, where it is the generation or a part of a longer text.
 pub fn has_bad_wild(kind: FileKind, flags: Flags, atom: &[u8], spec: Spec) -> bool
     requires { IsSpecOf (length atom.now) spec }

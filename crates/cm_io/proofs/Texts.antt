@@ -3,11 +3,11 @@
 -- using(..each) and Writes g.S.Sink l.fn.out l.out (flat_map text_of (take l.item-index l.items)). Another walk has
 -- Left g.S.Sink l.fn.out l.out REST WHOLE, using(..turns) and one answer, how the rest splits. An if that puts in one
 -- branch alone needs using(texts, each), a guard that returns early writes_none, a returning arm that writes nothing
--- each. The premise of the last text stands first in writes_both: in the other order three pieces stay open. Writes has
+-- each. The premise of the last text is first in writes_both: in the other order three pieces stay open. Writes has
 -- the ghost name of the borrow in it (same), so each function must say it; only the search, and no answer by hand, can
 -- name the sink.
-use Rattle.std.proofs.Common.{◌≡◌, ℕ, ◌+◌, ◌<◌, ◌≤◌, List, [], ◌∷◌, ◌++◌, length, take, get_or, refl, ap, sym, subst, ◌∙◌, arith, append_assoc}
-use Rattle.std.proofs.lemmas.List.{append-nil, take_more}
+use Rattle.std.proofs.Common.{◌≡◌, ℕ, ◌+◌, ◌<◌, ◌≤◌, List, [], ◌∷◌, ◌++◌, length, take, get_or, map, refl, ap, sym, subst, ◌∙◌, arith, append_assoc}
+use Rattle.std.proofs.lemmas.List.{append-nil, map-append, take_more}
 use Rattle.std.proofs.lemmas.Grind.{flat_map-append}
 use Rattle.cm_io.specs.declared.sink.Put.{Put}
 use Rattle.cm_io.specs.declared.sink.Put.TheVariants.{Done, Failed}
@@ -18,7 +18,8 @@ use Rattle.cm_io.specs.Fault.{PutCause, Rose}
 use Rattle.cm_io.specs.Writer.{Outlet, Puts, PutsOn, Writes, outlet}
 pub use Rattle.cm_io.specs.Writer.{Left}
 use Rattle.std.specs.List.{flat_map}
-use Rattle.cm_io.specs.Pieces.{times}
+use Rattle.cm_text.specs.ScreenBytes.{end_of_line}
+use Rattle.cm_io.specs.Pieces.{shown_line, shown_lines, times}
 use Rattle.cm_io.proofs.Repeats.{times_none, times_more}
 use Rattle.cm_io.proofs.Additions.{add_none, add_append, adds_early, adds_late}
 
@@ -167,6 +168,52 @@ left_written s before now later rest whole writes left =
     subst (λ text. Writes s before later text) left.joined
     (writes_both s before now later left.front rest writes left.writes)
 
+-- no lines
+pub writes_no_lines : {T : Type 0} (s : Ghosts T) (a : Writer T) → Writes s a a (shown_lines [])
+unfolding shown_lines
+writes_no_lines s a = writes_none s a
+
+-- one line
+pub writes_line : {T : Type 0} (s : Ghosts T) (a b : Writer T) (line : List ℕ) → Writes s a b (line ++ end_of_line)
+    → Writes s a b (shown_lines (line ∷ []))
+unfolding shown_lines
+writes_line s a b line writes = subst (λ text. Writes s a b text) (sym (append-nil (line ++ end_of_line))) writes
+
+-- lines after others
+pub writes_lines : {T : Type 0} (s : Ghosts T) (a b c : Writer T) (first more : List (List ℕ))
+    → Writes s b c (shown_lines more) → Writes s a b (shown_lines first) → Writes s a c (shown_lines (first ++ more))
+unfolding shown_lines
+writes_lines s a b c first more late early =
+    subst (λ text. Writes s a c text) (sym (flat_map-append shown_line first more))
+    (writes_both s a b c (shown_lines first) (shown_lines more) late early)
+
+-- and after one
+pub writes_next : {T : Type 0} (s : Ghosts T) (a b c : Writer T) (line : List ℕ) (more : List (List ℕ))
+    → Writes s b c (shown_lines more) → Writes s a b (line ++ end_of_line) → Writes s a c (shown_lines (line ∷ more))
+unfolding shown_lines
+writes_next s a b c line more late early = writes_both s a b c (line ++ end_of_line) (shown_lines more) late early
+
+-- the line of one element more, after those of the elements before it
+pub writes_line_each : {T A : Type 0} (s : Ghosts T) (a b c : Writer T) (f : A → List ℕ) (xs : List A) (i : ℕ) (d : A)
+    → i < length xs → Writes s b c (f (get_or xs i d) ++ end_of_line) → Writes s a b (shown_lines (map f (take i xs)))
+    → Writes s a c (shown_lines (map f (take (i + 1) xs)))
+writes_line_each s a b c f xs i d here late early =
+    let more : map f (take (i + 1) xs) ≡ map f (take i xs) ++ f (get_or xs i d) ∷ [] =
+    ap (map f) (take_more xs i d here) ∙ map-append f (take i xs) (get_or xs i d ∷ []) in
+    subst (λ lines. Writes s a c (shown_lines lines)) (sym more)
+    (writes_lines s a b c (map f (take i xs)) (f (get_or xs i d) ∷ []) (writes_line s b c (f (get_or xs i d)) late) early)
+
+-- and its lines
+pub writes_lines_each : {T A : Type 0} (s : Ghosts T) (a b c : Writer T) (f : A → List (List ℕ)) (xs : List A) (i : ℕ)
+    (d : A) → i < length xs → Writes s b c (shown_lines (f (get_or xs i d)))
+    → Writes s a b (shown_lines (flat_map f (take i xs))) → Writes s a c (shown_lines (flat_map f (take (i + 1) xs)))
+writes_lines_each s a b c f xs i d here late early =
+    let more : flat_map f (take (i + 1) xs) ≡ flat_map f (take i xs) ++ f (get_or xs i d) =
+    ap (flat_map f) (take_more xs i d here) ∙ flat_map-append f (take i xs) (get_or xs i d ∷ [])
+    ∙ ap (λ lines. flat_map f (take i xs) ++ lines) (append-nil (f (get_or xs i d))) in
+    subst (λ lines. Writes s a c (shown_lines lines)) (sym more)
+    (writes_lines s a b c (flat_map f (take i xs)) (f (get_or xs i d)) late early)
+
 -- texts one after the other
 pub ruleset texts = (writes_both)
 
@@ -175,3 +222,11 @@ pub ruleset each = (writes_each, writes_none)
 
 -- a loop that writes what is left of a text
 pub ruleset turns = (left_whole, left_less, left_nothing)
+
+-- lines one after the other
+pub ruleset lines = (writes_no_lines, writes_line, writes_lines, writes_next)
+
+-- the lines of a list's elements, in a loop over them: one of each, or several
+pub ruleset each_line = (writes_line_each, writes_no_lines)
+
+pub ruleset each_lines = (writes_lines_each, writes_no_lines)

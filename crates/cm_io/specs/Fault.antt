@@ -11,7 +11,7 @@ last_count = 2 ^ 64 - 1
 abbrev pub next_count : ℕ → ℕ
 next_count count = min (count + 1) last_count
 
--- the count is higher now, or stands at its last value
+-- the count is higher now, or is at its last value
 unfoldable pub Rose : ℕ → ℕ → Type 0
 Rose before now = next_count before ≤ now
 

@@ -1,5 +1,7 @@
 -- Bytes that are put often.
 use Rattle.std.specs.Prelude.{ℕ, zero, suc, ◌+◌, ◌/◌, ◌%◌, List, [], ◌∷◌, ◌++◌, nat_lt, if◌then◌else◌}
+use Rattle.std.specs.List.{flat_map}
+use Rattle.cm_text.specs.ScreenBytes.{end_of_line}
 
 -- the lower-case hexadecimal digit of a number below 16
 unfoldable pub hex_digit : ℕ → ℕ
@@ -13,3 +15,10 @@ hex byte = hex_digit (byte / 16) ∷ hex_digit (byte % 16) ∷ []
 unfoldable pub times : ℕ → List ℕ → List ℕ
 times zero piece = []
 times (suc n) piece = times n piece ++ piece
+
+-- lines, each with its end
+abbrev pub shown_line : List ℕ → List ℕ
+shown_line line = line ++ end_of_line
+
+unfoldable pub shown_lines : List (List ℕ) → List ℕ
+shown_lines lines = flat_map shown_line lines

@@ -7,13 +7,13 @@ ghost use Rattle.cm_io.specs.Status.{number_of};
 pub enum Kind {
     /// The bytes end before the record does.
     Cut,
-    /// It is no record that may stand here.
+    /// It is no record that may be here.
     Form,
     /// A number is outside its range.
     Range,
     /// It names a directory that no record before it makes.
     Name,
-    /// It does not stand above the record of its kind before it.
+    /// It is not above the record of its kind before it.
     Order,
     /// It is one too many of its kind, or the files have too many bytes with it.
     Limit,
@@ -28,7 +28,7 @@ pub enum Status {
     Usage,
     /// The bytes of the file to begin from are no image.
     BadImage {
-        /// Where the first wrong record begins: how many bytes stand before it.
+        /// Where the first wrong record begins: how many bytes are before it.
         at: u32,
         /// The kind of its fault.
         kind: Kind,

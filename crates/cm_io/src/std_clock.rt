@@ -4,17 +4,11 @@ ghost use Rattle.std.specs.Prelude.{false, []};
 use crate::Clock;
 use std::time::{SystemTime, UNIX_EPOCH};
 
-/// The system's clock. It gives 0 where the clock cannot be read or stands before 1970.
+/// The system's clock. It gives 0 where the clock cannot be read or is before 1970.
 #[derive(Drop)]
 pub struct StdClock {
-    rt: HostRuntime,
-}
-
-impl StdClock {
-    /// The clock of this system.
-    pub fn new(rt: &HostRuntime) -> StdClock {
-        StdClock { rt: *rt }
-    }
+    /// The system.
+    pub rt: HostRuntime,
 }
 
 impl Clock for StdClock {

@@ -139,7 +139,7 @@ impl Line {
         true
     }
 
-    /// Continues the line: the join byte stands in the place of the hyphen that ends it.
+    /// Continues the line: the join byte is in the place of the hyphen that ends it.
     pub fn join(&mut self)
         requires { ends_in_hyphen self.old ≡ true }
         ensures { self.new ≡ joined self.old }
@@ -162,7 +162,7 @@ impl Line {
     }
 }
 
-// A text byte may stand in a line, and so may the join byte: what the invariant of a line wants, said of one byte,
+// A text byte may be in a line, and so may the join byte: what the invariant of a line wants, said of one byte,
 // where the search has it of the whole list. Nothing of these is run.
 #[tactic(auto, using(cm_text::proofs::LineBytes::text_in_line))]
 fn text_stands(byte: u8)

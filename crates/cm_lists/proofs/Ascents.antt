@@ -10,11 +10,11 @@ use Rattle.cm_lists.specs.Ascent.{ascends}
 use Rattle.cm_lists.proofs.Orders.{is_lt-true, is_lt_from_less}
 use Rattle.cm_lists.proofs.Quantifiers.{all_filter}
 
--- each of these stands above the one
+-- each of these is above the one
 abbrev pub all_above : {X : Type 0} → (X → X → Ordering) → X → List X → Bool
 all_above compare x xs = list_all (λ other. is_lt (compare x other)) xs
 
--- each stands below all after it
+-- each is below all after it
 abbrev pub is_sorted : {X : Type 0} → (X → X → Ordering) → List X → Bool
 is_sorted compare [] = true
 is_sorted compare (x ∷ xs) = all_above compare x xs && is_sorted compare xs
@@ -37,7 +37,7 @@ sorted_filter compare keep (x ∷ xs) sorted = by (keep x) (sorted_filter compar
     by true rest = and_from _ _ (all_filter _ keep xs (and_parts _ _ sorted).0) rest
     by false rest = rest
 
--- which of two stands first, turned round
+-- which of two is first, turned round
 pub is_lt_turned : {X : Type 0} (compare : X → X → Ordering) → IsTotalOrder compare → (x y : X)
     → is_lt (compare x y) ≡ false → is_eq (compare x y) ≡ false → is_lt (compare y x) ≡ true
 is_lt_turned compare total x y not_less not_same = by (compare x y) (compare y x) (total.antisymm x y) not_less not_same
@@ -49,11 +49,11 @@ is_lt_turned compare total x y not_less not_same = by (compare x y) (compare y x
     by Greater Equal is first second = absurd (cc)
     by Greater Greater is first second = absurd (cc)
 
--- how many stand before its place
+-- how many are before its place
 abbrev pub place_by : {X : Type 0} → (X → X → Ordering) → X → List X → ℕ
 place_by compare new xs = prefix_len (λ other. is_lt (compare other new)) xs
 
--- what ascends stands below all after it, and the reverse
+-- what ascends is below all after it, and the reverse
 pub sorted_ascends : {X : Type 0} (compare : X → X → Ordering) → IsTotalOrder compare → (xs : List X)
     → ascends compare xs ≡ true → is_sorted compare xs ≡ true
 sorted_ascends compare total [] ascend = refl

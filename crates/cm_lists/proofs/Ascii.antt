@@ -14,7 +14,7 @@ use Rattle.cm_lists.proofs.Bools.{same_truth}
 pub IsAscii_rest : (size : ℕ) (text : List ℕ) → IsAscii text → IsAscii (take (length text - size) (drop size text))
 IsAscii_rest size text is = IsAscii-take (drop size text) (length text - size) (IsAscii-drop text size is)
 
--- ASCII bytes are a text: std's lemma, under a name that stands in a using(..)
+-- ASCII bytes are a text: std's lemma, under a name that is in a using(..)
 pub text_of_ascii : (bytes : List ℕ) → IsAscii bytes → IsUtf8 bytes
 text_of_ascii bytes are = IsUtf8-from_ascii bytes are
 

@@ -80,7 +80,7 @@ filter_same all test other same (x ∷ xs) pass =
     ap (λ is. cond is (x ∷ filter test xs) (filter test xs)) (same x parts.0)
     ∙ ap (λ more. cond (other x) (x ∷ more) more) (filter_same all test other same xs parts.1)
 
--- an element that passes a test stands among those that do
+-- an element that passes a test is among those that do
 pub filter_stands : {X : Type 0} (test : X → Bool) (front back : List X) (x : X) → test x ≡ true
     → filter test (front ++ x ∷ back) ≡ filter test front ++ x ∷ filter test back
 filter_stands test front back x passes = filter-append test front (x ∷ back) ∙ rw passes refl

@@ -76,7 +76,7 @@ none_removed {X} test (x ∷ xs) none = by (test x) (or_parts _ _ none).0 (none_
     by true is rest = absurd (cc)
     by false is rest = ap (λ others. x ∷ others) rest
 
--- an element that is one with another stands at its place
+-- an element that is one with another is at its place
 pub found_within : {X : Type 0} (compare : X → X → Ordering) (one : X) (xs : List X)
     → list_any (λ other. is_eq (compare other one)) xs ≡ true → place_by compare one xs < length xs
 found_within compare one [] some = absurd (cc)
@@ -90,7 +90,7 @@ found_within {X} compare one (x ∷ xs) some = by (compare x one) (found_within 
     by Equal rest is = omega arith
     by Greater rest is = omega arith
 
--- none of those that stand above one is it
+-- none of those that are above one is it
 above_differs : {X : Type 0} (compare : X → X → Ordering) → IsTotalOrder compare → (one : X) (xs : List X)
     → all_above compare one xs ≡ true → list_any (λ other. is_eq (compare other one)) xs ≡ false
 above_differs compare total one [] above = refl
@@ -104,7 +104,7 @@ above_differs {X} compare total one (x ∷ xs) above =
     both true b first second = absurd (cc)
     both a true first second = absurd (cc)
 
--- what stands above one stands above another that it equals, or is above
+-- what is above one is above another that it equals, or is above
 above_equal : {X : Type 0} (compare : X → X → Ordering) → IsTotalOrder compare → (x one : X) (xs : List X)
     → compare x one ≡ Equal → all_above compare x xs ≡ true → all_above compare one xs ≡ true
 above_equal compare total x one [] same above = refl

@@ -32,7 +32,7 @@ pub append_cons_first : {X : Type 0} (text : List X) (byte : X) (rest : List X) 
 append_cons_first [] byte rest = (byte, rest, refl)
 append_cons_first (first ∷ text) byte rest = (first, text ++ byte ∷ rest, refl)
 
--- what a text begins with at a place stands within it
+-- what a text begins with at a place is within it
 pub drop_within : {X : Type 0} (at : ℕ) (text : List X) (first : X) (rest : List X) → drop at text ≡ first ∷ rest → at < length text
 drop_within zero [] first rest is = cc
 drop_within (suc at) [] first rest is = cc

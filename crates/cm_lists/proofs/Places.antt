@@ -1,4 +1,4 @@
--- Elements that stand below, at and above a place, in this order, and the halving of them.
+-- Elements that are below, at and above a place, in this order, and the halving of them.
 use Rattle.std.proofs.Common.{Bool, List, None, Some, [], ap, arith, cond, false, filter, get_or, length, not, position, refl, slice_get, suc, sym, true, zero, ℕ, ◌&&◌, ◌++◌, ◌+◌, ◌<◌, ◌∙◌, ◌∷◌, ◌≡◌, ◌≤◌}
 use Rattle.std.specs.Cmp.{IsTotalOrder}
 use Rattle.std.specs.List.{list_all, position_or_len, prefix_len}
@@ -11,7 +11,7 @@ use Rattle.cm_lists.proofs.Ascents.{all_above, is_sorted}
 use Rattle.cm_lists.proofs.Elements.{slice_get-append_add, slice_get-append_left}
 use Rattle.cm_lists.proofs.Positions.{no_position, position_at}
 
--- what may stand after an element of this place
+-- what may be after an element of this place
 abbrev pub may_follow : Ordering → Ordering → Bool
 may_follow Less after = true
 may_follow Equal after = not (is_lt after)
@@ -115,7 +115,7 @@ parts_of {X} place (x ∷ xs) rise = by (place x) refl (and_parts _ _ rise).0 (p
           above = and_from _ _ here none.1;
         }
 
--- what passes a test that falls with the places stands before what does not
+-- what passes a test that falls with the places is before what does not
 pub follows_part : (test : Ordering → Bool) → ((a b : Ordering) → may_follow a b ≡ true → test b ≡ true → test a ≡ true)
     → {X : Type 0} (place : X → Ordering) (x d : X) (xs : List X) (j : ℕ) → j < length xs
     → list_all (λ y. may_follow (place x) (place y)) xs ≡ true → test (place (get_or xs j d)) ≡ true → test (place x) ≡ true

@@ -204,7 +204,7 @@ none_of_all p q one (byte ∷ text) all =
     let here = one byte parts.0 in
     rw here (none_of_all p q one text parts.1)
 
--- where no element passes, however it stands among the others, none does
+-- where no element passes, however it is among the others, none does
 pub none_passes : {X : Type 0} (test : X → Bool) (all front rest : List X) → front ++ rest ≡ all
     → ((before after : List X) (x : X) → before ++ x ∷ after ≡ all → test x ≡ false)
     → list_all (λ x. not (test x)) rest ≡ true

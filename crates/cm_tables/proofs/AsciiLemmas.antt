@@ -25,7 +25,7 @@ keyword_is_ascii [] all i = omega arith
 keyword_is_ascii (byte ∷ text) all zero = keyword_byte_is_ascii byte (and_parts _ _ all).0
 keyword_is_ascii (byte ∷ text) all (suc i) = keyword_is_ascii text (and_parts _ _ all).1 i
 
--- what stands after an atom in the entries
+-- what is after an atom in the entries
 rests_are_ascii : (place : ℕ) (entries : List Entry) (atom : List ℕ) → Ascends entries
     → AllByRecursion IsAscii (rests_from place entries atom)
 rests_are_ascii place [] atom up = tt

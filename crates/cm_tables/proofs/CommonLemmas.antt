@@ -7,7 +7,7 @@ use Rattle.cm_tables.specs.Common.{shared}
 use Rattle.cm_tables.specs.declared.entry.Entry.{Entry}
 use Rattle.cm_tables.specs.Search.{candidates_from}
 
--- what stands after the atom in each entry from a position on that it may abbreviate
+-- what is after the atom in each entry from a position on that it may abbreviate
 abbrev pub rests_from : ℕ → List Entry → List ℕ → List (List ℕ)
 rests_from position table atom = map (λ (e : ℕ × Entry). drop (length atom) e.1.text) (candidates_from position table atom)
 

@@ -94,7 +94,7 @@ keyword_of place before text none = by (is_keyword text) none
     by true none = (refl, none)
     by false none = cc
 
--- and stands above the text before it
+-- and is above the text before it
 pub above_of : (place : ℕ) (order : Ordering) → by_order place order ≡ None → order ≡ Less
 above_of place Less none = refl
 above_of place Equal none = cc

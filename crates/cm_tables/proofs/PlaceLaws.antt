@@ -90,7 +90,7 @@ begins_at (byte ∷ text) (next ∷ atom) =
     by Equal is later = grind (arith, nat_tests)
     by Greater is later = grind (arith, nat_tests)
 
--- those that a test passes stand before this place, and the others from it on
+-- those that a test passes are before this place, and the others from it on
 abbrev pub IsPoint : (Entry → Bool) → List Entry → ℕ → Type 0
 IsPoint test entries place = IsPartitionPoint (λ entry. test entry ≡ true) (λ entry. test entry ≡ false) entries place
 

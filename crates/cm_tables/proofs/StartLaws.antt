@@ -93,7 +93,7 @@ pub listed_in : (atom : List ℕ) (entries : List Entry) (start : ℕ) (after : 
 listed_in atom entries start after place is =
     passing_in (is_listed atom) atom entries start after (λ entry fails. and_right (is_plain entry.flag) _ fails) is place
 
--- what stands after the atom is the same wherever the entries stand
+-- what is after the atom is the same wherever the entries stand
 rests_anywhere : (place other : ℕ) (entries : List Entry) (atom : List ℕ)
     → rests_from place entries atom ≡ rests_from other entries atom
 rests_anywhere place other [] atom = refl

@@ -9,7 +9,7 @@ use Rattle.cm_tables.specs.declared.entry.Entry.{Entry}
 abbrev pub shared : List ℕ → List ℕ → List ℕ
 shared text other = take (common_prefix_len nat_eq text other) text
 
--- what stands after the atom in each entry that it may abbreviate
+-- what is after the atom in each entry that it may abbreviate
 abbrev pub rests : List Entry → List ℕ → List (List ℕ)
 rests table atom = map (λ (e : ℕ × Entry). drop (length atom) e.1.text) (candidates table atom)
 

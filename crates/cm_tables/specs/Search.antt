@@ -12,7 +12,7 @@ use Rattle.cm_tables.specs.Look.{is_recognised}
 use Rattle.cm_tables.specs.Order.{is_keyword}
 use Rattle.cm_tables.specs.declared.entry.Entry.{Entry}
 
--- [look-up-cost] whether a text stands below those that begin with the atom, among them or above them
+-- whether a text is below those that begin with the atom, among them or above them
 abbrev pub place : List ℕ → List ℕ → Ordering
 place text [] = Equal
 place [] (next ∷ atom) = Less
@@ -26,15 +26,15 @@ Ascends (entry ∷ more) =
     (is_keyword entry.text ≡ true) × AllByRecursion (λ later. slice_cmp nat_cmp entry.text later.text ≡ Less) more
     × Ascends more
 
--- a text stands below those that begin with the atom
+-- a text is below those that begin with the atom
 abbrev pub is_below : List ℕ → List ℕ → Bool
 is_below text atom = is_lt (place text atom)
 
--- none of these entries stands below those that begin with the atom
+-- none of these entries is below those that begin with the atom
 abbrev pub AreNotBelow : List ℕ → List Entry → Type 0
 AreNotBelow atom entries = AllByRecursion (λ entry. is_below entry.text atom ≡ false) entries
 
--- the entries from a position on, which do not stand below those that begin with the atom, where none before them
+-- the entries from a position on, which are not below those that begin with the atom, where none before them
 -- begins with it
 pub record IsFrom (atom : List ℕ) (entries : List Entry) (start : ℕ) (after : List Entry) : Type 0 where
   pub before : List Entry
@@ -54,6 +54,6 @@ abbrev pub is_first : List Entry → List ℕ → Bool
 is_first [] atom = false
 is_first (entry ∷ more) atom = equals entry.text atom
 
--- the entries that begin with the atom, and that it may not abbreviate
+-- [look-up-cost] the entries that begin with the atom, and that it may not abbreviate
 abbrev pub wholes : List Entry → List ℕ → List Entry
 wholes entries atom = filter (λ (entry : Entry). not (is_recognised entry.flag) && begins_with entry.text atom) entries

@@ -17,7 +17,7 @@ fn shared<'a>(text: &'a [u8], other: &[u8]) -> &'a [u8]
     &text[..common_len(text, other)]
 }
 
-// What stands after an atom in an entry that is no shorter.
+// What is after an atom in an entry that is no shorter.
 fn rest<'a>(entry: &'a Entry, atom: &[u8]) -> &'a [u8]
     requires { length atom.now ≤ length entry.now.text }
     ensures value { result.now ≡ drop (length atom.now) entry.now.text }

@@ -6,7 +6,7 @@ use crate::Entry;
 use cm_text::seek;
 use std::cmp::Ordering;
 
-// Whether a text stands below those that begin with the atom.
+// Whether a text is below those that begin with the atom.
 fn is_below(text: &[u8], atom: &[u8]) -> bool
     ensures { result ≡ is_below text.now atom.now }
 {
@@ -23,7 +23,7 @@ fn is_below(text: &[u8], atom: &[u8]) -> bool
     }
 }
 
-// The entries that do not stand below those that begin with the atom, and the position of the first. How often
+// The entries that are not below those that begin with the atom, and the position of the first. How often
 // texts are compared is added to `probes`.
 pub(crate) fn from_first<'a>(
     entries: &'a [Entry],

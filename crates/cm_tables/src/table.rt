@@ -24,7 +24,7 @@ pub enum TableFault {
     /// The text is that of the entry before it.
     #[error("Repeat")]
     Repeat(u16),
-    /// The text stands below that of the entry before it.
+    /// The text is below that of the entry before it.
     #[error("Order")]
     Order(u16),
     /// A Short entry stands for no entry that may be abbreviated and whose text begins with its own.

@@ -1,4 +1,4 @@
--- What may stand in a line.
+-- What may be in a line.
 use Rattle.std.proofs.Common.{◌≡◌, ℕ, true, List, [], ◌∷◌, refl}
 use Rattle.std.specs.List.{AllByRecursion}
 use Rattle.cm_text.specs.Bytes.{is_line_byte, is_text}

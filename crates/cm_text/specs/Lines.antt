@@ -10,7 +10,7 @@ ends_in_return line = option_map_or (λ (byte : ℕ). byte == 13) (slice_get lin
 abbrev pub without_return : List ℕ → List ℕ
 without_return line = if ends_in_return line then take (length line - 1) line else line
 
--- what stands after the last line feed is a line too, where anything does
+-- what is after the last line feed is a line too, where anything is
 abbrev pub last_line : List ℕ → List (List ℕ)
 last_line [] = []
 last_line (byte ∷ line) = (byte ∷ line) ∷ []

@@ -19,6 +19,6 @@ finished line = line ++ 13 ∷ []
 abbrev pub ends_in_hyphen : List ℕ → Bool
 ends_in_hyphen line = option_map_or (λ (byte : ℕ). byte == 45) (slice_get line (length line - 1)) false
 
--- the line, continued: the join byte stands in the place of the hyphen
+-- the line, continued: the join byte is in the place of the hyphen
 abbrev pub joined : List ℕ → List ℕ
 joined line = take (length line - 1) line ++ JOIN ∷ []

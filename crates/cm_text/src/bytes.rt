@@ -25,7 +25,7 @@ pub fn is_shown(text: &[u8]) -> bool
     text.iter().all(|byte| is_shown_byte(*byte))
 }
 
-/// Whether a byte may stand in a line: a text byte, or the join byte.
+/// Whether a byte may be in a line: a text byte, or the join byte.
 #[tactic(auto, unfolding(crate::specs::Bytes::is_line_byte))]
 pub fn is_line_byte(byte: u8) -> bool
     ensures { result ≡ is_line_byte byte }
@@ -33,7 +33,7 @@ pub fn is_line_byte(byte: u8) -> bool
     is_text(byte) || byte == JOIN
 }
 
-/// Whether a byte may stand in a word: a letter, a digit or `-`.
+/// Whether a byte may be in a word: a letter, a digit or `-`.
 #[tactic(auto, unfolding(crate::specs::Bytes::is_word))]
 pub fn is_word(byte: u8) -> bool
     ensures { result ≡ is_word byte }
@@ -41,7 +41,7 @@ pub fn is_word(byte: u8) -> bool
     byte.is_ascii_alphanumeric() || byte == b'-'
 }
 
-/// Whether a byte may stand in a name: a word byte, `$` or `_`.
+/// Whether a byte may be in a name: a word byte, `$` or `_`.
 #[tactic(auto, unfolding(crate::specs::Bytes::is_name))]
 pub fn is_name(byte: u8) -> bool
     ensures { result ≡ is_name byte }

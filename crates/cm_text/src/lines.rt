@@ -12,7 +12,7 @@ pub struct LineEnd {
 }
 
 /// The first line of some bytes, or none where there are no bytes. A line feed ends a line, and one carriage return
-/// before it is none of the line's; what stands after the last line feed is a line too.
+/// before it is none of the line's; what is after the last line feed is a line too.
 pub fn first_line(bytes: &[u8]) -> Option<LineEnd>
     ensures { BeginsLines bytes.now result }
 {

@@ -26,7 +26,7 @@ pub fn rubout() -> &'static [u8]
     b"\x08 \x08"
 }
 
-/// What stands before the reason of a refusal.
+/// What is before the reason of a refusal.
 #[tactic(auto, unfolding(crate::specs::ScreenBytes::question))]
 pub fn question() -> &'static [u8]
     ensures { result.now ≡ question }

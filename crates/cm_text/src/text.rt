@@ -8,7 +8,7 @@ pub const LINE_LIMIT: usize = 255;
 /// The most bytes that a text has: those of a line, and the CR that finished it.
 pub const TEXT_LIMIT: usize = LINE_LIMIT + 1;
 
-/// The byte that stands in a line where a hyphen continued it.
+/// The byte that is in a line where a hyphen continued it.
 pub const JOIN: u8 = b'\n';
 
 /// Whether the last byte of a line is a hyphen, so that a carriage return continues the line.
