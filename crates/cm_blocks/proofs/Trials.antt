@@ -42,7 +42,7 @@ trial_is_local s Comma flags = comma_is_local
 trial_is_local s Confirm flags = confirm_is_local
 trial_is_local s (Hook id) flags = run_is_local is_name (λ at. hook_of s.meanings.verdict id)
 
--- the same of an answer to what stands in a text from a place on
+-- the same of an answer to what is in a text from a place on
 pub seen_from : (trial : List ℕ → ℕ → Try) → IsLocal trial → (text : List ℕ) (at : ℕ) (answer : Try)
     → answer ≡ trial (drop at text) at → IsSeen (length text - at) answer
 seen_from trial local text at answer is =

@@ -170,7 +170,7 @@ guide_said phrase (byte ∷ rest) at =
     cond_each (IfAccept is_guide) (byte == 40) (typed_noise phrase rest at) (Accept (values.Noise false) 1 at)
     (typed_guide phrase rest at) refl
 
--- what stands after an opening quote
+-- what is after an opening quote
 quoted_after : (at size written : ℕ) (rest : List ℕ) → IfAccept is_quoted (by_closing at (closing size written rest))
 quoted_after at size written [] = tt
 quoted_after at size written (byte ∷ []) =

@@ -65,7 +65,7 @@ abbrev pub is_confirm : Value → Bool
 is_confirm Confirm = true
 is_confirm value = false
 
--- a field, or the end of the line; a field of the default stands at its place with no bytes, and the end of the line
+-- a field, or the end of the line; a field of the default is at its place with no bytes, and the end of the line
 -- decides it
 abbrev pub answered : Bool → ℕ → ℕ → Walk → Chain
 answered on_default node start (Takes block role next value looked end) =
@@ -119,7 +119,7 @@ on_default s number node start text = record {
   spent = spent s (default_rest node.raw text) (default_place node.raw text) node.chain;
 }
 
--- a carriage return stands there
+-- a carriage return is there
 abbrev pub is_line_end : List ℕ → Bool
 is_line_end [] = false
 is_line_end (byte ∷ rest) = byte == 13

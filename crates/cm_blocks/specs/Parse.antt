@@ -1,4 +1,4 @@
--- The parse of a whole text: its fields, and what stands after the last.
+-- The parse of a whole text: its fields, and what is after the last.
 use Rattle.std.specs.Prelude.{◌≡◌, ℕ, zero, suc, ◌<◌, ◌≤◌, List, [], ◌∷◌, ◌++◌, length, Some}
 use Rattle.cm_fields.specs.declared.code.Code.TheVariants.{TooMany}
 use Rattle.cm_blocks.specs.declared.field.Chain.{Chain}

@@ -1,8 +1,10 @@
 -- The words in which grammars are written.
-use Rattle.std.specs.Prelude.{ℕ, false, List, None}
+use Rattle.std.specs.Prelude.{ℕ, false, List, [], ◌∷◌, None}
 use Rattle.cm_files.specs.declared.flags.Flags.{Flags}
 use Rattle.cm_blocks.specs.declared.function.Function.{Function}
+use Rattle.cm_blocks.specs.declared.function.Function.TheVariants as functions
 use Rattle.cm_blocks.specs.declared.function.Role.{Role}
+use Rattle.cm_blocks.specs.declared.function.Role.TheVariants as roles
 use Rattle.cm_blocks.specs.declared.node.Block.{Block}
 use Rattle.cm_blocks.specs.declared.node.Node.{Node}
 
@@ -22,6 +24,18 @@ abbrev pub block : Function → Role → ℕ → Block
 block function role next =
     record { function = function; flags = no_flags; help = None; role = role; next = next }
 
+-- the end of a line
+abbrev pub confirm : ℕ → Block
+confirm next = block functions.Confirm roles.None next
+
+-- a guide word
+abbrev pub guide : List ℕ → ℕ → Block
+guide word next = block (functions.Noise word) roles.None next
+
 -- a node of these blocks, with no default, where comments begin
 abbrev pub node : List Block → Node
 node chain = record { chain = chain; default = None; raw = false }
+
+-- a node of one block
+abbrev pub only : Block → Node
+only it = node (it ∷ [])

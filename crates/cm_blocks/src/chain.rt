@@ -212,7 +212,7 @@ fn tried_on<'a>(
 /// What the chain of a node makes of a text from a place on (COMND).
 ///
 /// Blanks and comments are skipped; in a comment that is not ended the answer is Open with no block. Where
-/// the line ends there and the node has a default, the blocks are tried on that, and the field stands at the
+/// the line ends there and the node has a default, the blocks are tried on that, and the field is at the
 /// place with no bytes. The first block that does not refuse decides: its field, Done for the end of the
 /// line, Open where it wants more. Where all refuse the answer is Fault with the code of the last. The
 /// counter rises by the bytes that each block looked at, and one for each.

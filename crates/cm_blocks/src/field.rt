@@ -142,7 +142,7 @@ pub enum Chain {
     Open(Open),
 }
 
-/// What stands after the last field of a parse.
+/// What is after the last field of a parse.
 #[derive(Clone, Copy, Debug, PartialEq, Eq)]
 pub enum Ending {
     /// The line may go on.

@@ -68,7 +68,7 @@ fn named_switch(table: &Table, at: usize, size: usize, colon: bool, found: Resul
     }
 }
 
-// What stands after a slash.
+// What is after a slash.
 fn after_slash(table: &Table, rest: &[u8], at: usize) -> Try
     requires { at + length rest.now < 2 ^ 15 }
     ensures { result ≡ after_slash table.now rest.now at }

@@ -19,6 +19,6 @@ pub use field::{Chain, Ending, FIELD_LIMIT, Fault, Field, Open};
 pub use function::{Function, Role};
 pub use grammar::{Grammar, GrammarFault};
 pub use keyword::{key, switch};
-pub use node::{Block, Blocks, Node};
+pub use node::{Block, Blocks, Node, push_nodes};
 pub use steps::Steps;
 pub use trial::try_function;

@@ -1,9 +1,12 @@
 // The nodes of a grammar.
-ghost use Rattle.std.specs.Prelude.{◌≡◌};
+ghost use Rattle.std.specs.Prelude.{◌≡◌, ◌≤◌, ◌++◌, IfOk, length, map};
+ghost use Rattle.cm_text.specs.declared.name.TheConstants.{NAME_LIMIT};
+ghost use Rattle.cm_blocks.specs.Words.{only};
 
 use crate::{Function, Role};
 use cm_files::Flags;
 use cm_text::Name;
+use std::alloc::{AllocError, Global};
 use std::marker::Model;
 
 /// A function block: one way for a field to be read (COMND's function descriptor block).
@@ -22,7 +25,7 @@ pub struct Block {
 }
 
 impl Block {
-    ghost use Rattle.cm_blocks.specs.Words.{block};
+    ghost use Rattle.cm_blocks.specs.Words.{block, confirm, guide};
 
     /// A block that reads this, for this, before the node that follows. It has no flags, and no help of its own.
     pub fn new(function: Function, role: Role, next: u16) -> Block
@@ -42,6 +45,21 @@ impl Block {
             role,
             next,
         }
+    }
+
+    /// The end of a line. The node that follows is never asked.
+    pub fn confirm(next: u16) -> Block
+        ensures { result ≡ confirm next }
+    {
+        Block::new(Function::Confirm, Role::None, next)
+    }
+
+    /// A guide word, as `(FROM)`, before the node that follows.
+    pub fn guide(word: &str, next: u16) -> Block
+        requires { length word.now ≤ NAME_LIMIT }
+        ensures { result ≡ guide word.now next }
+    {
+        Block::new(Function::Noise(Name::new(word)), Role::None, next)
     }
 }
 
@@ -107,4 +125,18 @@ impl Node {
             raw: false,
         }
     }
+}
+
+/// Puts after some nodes, for each of these blocks, a node of it alone.
+pub fn push_nodes(
+    nodes: &mut Vec<Node>,
+    blocks: Vec<Block>,
+    alloc: Global,
+) -> Result<(), AllocError>
+    ensures { IfOk result (λ _. nodes.new.items ≡ nodes.old.items ++ map only blocks.items) }
+{
+    for block in blocks {
+        nodes.push(Node::new(vec![in alloc; block]?))?;
+    }
+    Ok(())
 }

@@ -24,7 +24,7 @@ impl<L: Ledger> Model for Steps<L> {
 }
 
 impl<L: Ledger> Steps<L> {
-    /// A counter that stands at 0, for this ledger.
+    /// A counter that is at 0, for this ledger.
     pub fn new(_rt: &HostRuntime, blank: Blank) -> Steps<L>
         requires name { blank.name ≡ L.name }
         requires parts { blank.parts ≡ L.parts }

@@ -47,7 +47,7 @@ after_guide graph meanings block atom =
 abbrev pub phrases : Graph → Meanings → List ℕ → Block → List (List ℕ)
 phrases graph meanings atom block = phrase graph meanings atom block ∷ after_guide graph meanings block atom
 
--- the first phrase stands after a space, each further one on a line of its own
+-- the first phrase is after a space, each further one on a line of its own
 unfoldable pub lead : Bool → List ℕ
 lead true = codes " "
 lead false = end_of_line ++ codes " or "

@@ -58,7 +58,7 @@ guide_end = codes ")"
 unfoldable pub quote : List ℕ
 quote = codes "\""
 
--- what a function reads, in its own words; a switch is told by what stands after its slash
+-- what a function reads, in its own words; a switch is told by what is after its slash
 unfoldable pub function_phrase : Graph → Meanings → Function → List ℕ → List ℕ
 function_phrase graph meanings (Key table) atom = keywords false (listed_from 0 (table_of graph table) atom)
 function_phrase graph meanings (Switch table) atom = keywords true (listed_from 0 (table_of graph table) (drop 1 atom))

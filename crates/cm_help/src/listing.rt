@@ -29,7 +29,7 @@ fn comment() -> &'static [u8]
     b" comment"
 }
 
-// Puts what stands before a phrase.
+// Puts what is before a phrase.
 #[tactic(auto, using(cm_io::proofs::Texts::texts), unfolding(crate::specs::Help::lead))]
 fn put_lead<S: Sink>(first: bool, out: &mut Writer<'_, S>)
     ensures { Writes S.Sink out.old out.new (lead first) }

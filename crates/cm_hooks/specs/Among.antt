@@ -8,6 +8,7 @@ use Rattle.cm_hooks.specs.declared.answer.Answer.{Answer}
 use Rattle.cm_hooks.specs.declared.answer.Answer.TheVariants.{Yes, No}
 use Rattle.cm_hooks.specs.declared.answer.Tail.{Tail}
 use Rattle.cm_hooks.specs.declared.answer.Tail.TheVariants as tails
+use Rattle.cm_hooks.specs.Meanings.{Meanings}
 
 -- name bytes alone, and at most as many as a name has
 abbrev pub is_name_text : List ℕ → Bool
@@ -54,3 +55,11 @@ abbrev pub joined : Tail → List ℕ → Tail
 joined tails.None rest = tails.Whole rest
 joined (tails.Part text) rest = tails.Part (shared text rest)
 joined (tails.Whole text) rest = tails.Part (shared text rest)
+
+-- each hook reads one of the names, and has this help
+abbrev pub choice_meanings : List (List ℕ) → List ℕ → Meanings
+choice_meanings names help = record {
+  verdict = λ id atom. verdict_among names atom;
+  completion = λ id atom. completion_among names atom;
+  help = λ id. help;
+}

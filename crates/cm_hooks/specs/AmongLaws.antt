@@ -6,9 +6,9 @@ use Rattle.cm_text.specs.Bytes.{is_name}
 use Rattle.cm_text.specs.Case.{begins_with}
 use Rattle.cm_text.specs.BeginLaws.{begins_longer, begins_whole, length-whole}
 use Rattle.cm_text.specs.declared.name.TheConstants.{NAME_LIMIT}
-use Rattle.cm_hooks.specs.Among.{are_names, completion_among, goes_on, is_name_text, rests, shared, under, verdict_among}
+use Rattle.cm_hooks.specs.Among.{are_names, choice_meanings, completion_among, goes_on, is_name_text, rests, shared, under, verdict_among}
 use Rattle.cm_hooks.specs.declared.answer.Tail.TheVariants as tails
-use Rattle.cm_hooks.specs.Meanings.{Completes, IsYes}
+use Rattle.cm_hooks.specs.Meanings.{Completes, IsLawful, IsYes}
 
 -- what all pass those after some pass, and the first of them
 list_all-drop : (p : ℕ → Bool) (n : ℕ) (xs : List ℕ) → list_all p xs ≡ true → list_all p (drop n xs) ≡ true
@@ -157,3 +157,8 @@ among_completes names all atom = by (length atom == 0) refl
     by false full =
         found_completes names atom (under names atom) (grind (arith, nat_tests))
         (passing_names atom (enumerate_from 0 names) (numbered_names 0 names all)) refl
+
+-- so rules by which each field is one of them are lawful
+pub choices_lawful : (names : List (List ℕ)) (help : List ℕ) → are_names names ≡ true
+    → IsLawful (choice_meanings names help)
+choices_lawful names help all = record { completes = λ id atom short. among_completes names all atom }

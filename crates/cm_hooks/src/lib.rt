@@ -4,11 +4,13 @@
 
 mod among;
 mod answer;
+mod choices;
 mod field;
 pub mod laws;
 mod rules;
 
 pub use among::{completion_among, verdict_among};
 pub use answer::{Answer, Tail};
+pub use choices::Choices;
 pub use field::hook_field;
 pub use rules::{NoRules, Rules};

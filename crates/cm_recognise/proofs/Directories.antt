@@ -186,7 +186,7 @@ device_short c is_catalogue atom meant is = by (device_read atom).part refl is
         (let small = subst (λ (place : Span). length (part atom place) ≤ NAME_LIMIT) of.is short in omega arith) in
         subst (λ (place : Span). is_long (Some place) ≡ false) (sym of.is) (grind (arith, nat_tests))
 
--- what stands after an opening angle bracket
+-- what is after an opening angle bracket
 unclosed_of : (byte : ℕ) (more typed : List ℕ) → unclosed (byte ∷ more) ≡ Some typed → byte ∷ more ≡ 60 ∷ typed
 unclosed_of byte more typed is = by (byte == 60) refl (not (list_any (λ other. other == 62) more)) is
   where

@@ -133,7 +133,7 @@ outcome_shown s mode block atom at named tables lawful has short =
     function_shown s mode block.function block.flags block.next atom _ named tables lawful has short
     (plain_shown block.next (trial s block.function block.flags (atom ++ 32 ∷ []) at))
 
--- what stands after a field that is whole
+-- what is after a field that is whole
 guide_after_shown : (function : Function) → has_phrase function ≡ true → AreShown (guide_after function)
 guide_after_shown (Noise text) has = shown_append (guide text) (32 ∷ []) (guide_shown text (noise_shown text has)) (refl, tt)
 guide_after_shown function has = tt

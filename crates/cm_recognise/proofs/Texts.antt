@@ -69,7 +69,7 @@ text_byte : (byte : ℕ) → is_shown_byte byte ≡ true → is_text byte ≡ tr
 unfolding is_text
 text_byte byte is = grind (arith, nat_tests)
 
--- what is shown as it is may be typed, and so stand in a line
+-- what is shown as it is may be typed, and so be in a line
 pub typed_of_shown : (text : List ℕ) → AreShown text → AreTyped text
 typed_of_shown [] all = tt
 typed_of_shown (byte ∷ text) all = (text_byte byte all.0, typed_of_shown text all.1)

@@ -30,12 +30,12 @@ completed next typed close (Several front) = Part (missing front typed)
 unfoldable pub user_outcome : Catalogue → ℕ → List ℕ → Outcome
 user_outcome c next atom = completed next atom [] (found_users c atom)
 
--- what stands after an opening angle bracket that is not closed
+-- what is after an opening angle bracket that is not closed
 abbrev pub unclosed : List ℕ → Option (List ℕ)
 unclosed [] = None
 unclosed (byte ∷ typed) = if byte == 60 && not (list_any (λ other. other == 62) typed) then Some typed else None
 
--- the same where a device may stand before it
+-- the same where a device may be before it
 abbrev pub opened : List ℕ → Option (List ℕ)
 opened atom = unclosed (drop (device_read atom).next atom)
 

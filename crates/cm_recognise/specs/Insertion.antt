@@ -31,7 +31,7 @@ abbrev pub guide_of : Option Node → List ℕ
 guide_of None = []
 guide_of (Some node) = option_map_or (λ (block : Block). guide_after block.function) (slice_get node.chain 0) []
 
--- what stands after a field that is whole: a space, and the guide word with which the next node begins
+-- what is after a field that is whole: a space, and the guide word with which the next node begins
 abbrev pub after : Graph → ℕ → List ℕ
 after graph next = 32 ∷ guide_of (slice_get graph.nodes next)
 

@@ -63,7 +63,7 @@ fn name_run(text: &[u8]) -> usize
     text.iter().take_while(|byte| is_name(**byte)).count()
 }
 
-// Whether a colon stands at a place.
+// Whether a colon is at a place.
 fn colon_at(text: &[u8], place: usize) -> bool
     ensures value { result ≡ stands_at text.now place 58 }
     ensures within { OnTrue result (place < length text.now) }
@@ -88,14 +88,14 @@ fn device_len(atom: &[u8]) -> usize
     }
 }
 
-// Whether a closing angle bracket stands in a text.
+// Whether a closing angle bracket is in a text.
 fn is_closed(text: &[u8]) -> bool
     ensures { result ≡ list_any (λ byte. byte == 62) text.now }
 {
     text.iter().any(|byte| *byte == b'>')
 }
 
-// What stands after an opening angle bracket that is not closed.
+// What is after an opening angle bracket that is not closed.
 fn unclosed(text: &[u8]) -> Option<&[u8]>
     ensures value { option_copied result ≡ unclosed text.now }
 {
@@ -105,7 +105,7 @@ fn unclosed(text: &[u8]) -> Option<&[u8]>
     }
 }
 
-// The same where a device may stand before it.
+// The same where a device may be before it.
 fn opened(atom: &[u8]) -> Option<&[u8]>
     requires { length atom.now ≤ LINE_LIMIT }
     ensures { option_copied result ≡ opened atom.now }
@@ -347,7 +347,7 @@ fn as_piece(outcome: Outcome) -> Outcome
     }
 }
 
-// Whether a wildcard stands in a text.
+// Whether a wildcard is in a text.
 fn is_wild(text: &[u8]) -> bool
     ensures { result ≡ list_any is_wild text.now }
 {

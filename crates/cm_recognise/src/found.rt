@@ -14,7 +14,7 @@ use cm_text::{NAME_LIMIT, begins_with, common_len, equals};
 pub(crate) enum Found {
     /// There is none.
     Nobody,
-    /// There is one, which may stand there more than once.
+    /// There is one, which may be there more than once.
     One(Bytes),
     /// There are several, and this is the longest text with which each of them begins.
     Several(Bytes),

@@ -72,7 +72,7 @@ fn append_guide(function: &Function, bytes: &mut Bytes)
     }
 }
 
-// Appends what stands after a field that is whole.
+// Appends what is after a field that is whole.
 fn append_after(grammar: &Grammar, next: u16, bytes: &mut Bytes)
     requires { length bytes.old ≤ TAIL_LIMIT }
     ensures { bytes.new ≡ bytes.old ++ after grammar.now next }

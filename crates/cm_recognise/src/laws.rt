@@ -26,7 +26,7 @@ ghost use Rattle.cm_recognise.specs.Outcome.{outcome};
 ghost use Rattle.cm_recognise.specs.Sound.{HasDevice, TakesField, Waits};
 
 /// A completion that is whole is taken. Where a line waits at a block, and the block completes what is typed of its
-/// field as a whole, the line with these bytes, and with what stands after a whole field, has from the same place on
+/// field as a whole, the line with these bytes, and with what is after a whole field, has from the same place on
 /// a field of this node and block. It begins where it began, ends with the completion, and leads to the node that the
 /// completion names. A directory is completed whatever device is typed before it; it is taken where there is such a
 /// device.
@@ -39,7 +39,7 @@ pub fn a_whole_completion_is_taken()
         (chain_at s number (line ++ (bytes ++ after s.graph next)) at).chain }
 {}
 
-/// Such a completion is what the key puts in that asks the block, ESC or control-F, with what stands after a whole
+/// Such a completion is what the key puts in that asks the block, ESC or control-F, with what is after a whole
 /// field and no bell, where it fits into the line; ESC where no default stands for the field.
 pub fn a_whole_completion_is_put_in()
     ensures { (s : Setting) → (line : List ℕ) → IsLine line → (number b at start : ℕ) → (block : Block)
@@ -52,7 +52,7 @@ pub fn a_whole_completion_is_put_in()
 {}
 
 /// What a key puts in that completes, at any place of any line, is shown as it is: bytes from space to tilde, none of
-/// them a question mark, so that a screen is given each as it stands in the line.
+/// them a question mark, so that a screen is given each as it is in the line.
 pub fn what_is_put_in_is_shown()
     ensures shown { (s : Setting) → grammar_fault s.graph ≡ None → IsCatalogue s.catalogue → AreTables s.graph.tables
         → IsLawful s.meanings → (ends : Ending) → (line : List ℕ) → (mode : Mode)

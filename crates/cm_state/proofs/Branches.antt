@@ -1,8 +1,8 @@
--- What stands after the keywords of some commands: by which blocks the fields of a role are read there.
+-- What is after the keywords of some commands: by which blocks the fields of a role are read there.
 -- What follows a verb is proved over any grammar. A program says where its lines begin (Begins), and gives an instance
 -- of four refl for each thing that it needs. A Branch names verbs, the nodes after them, a role and a test on its
 -- blocks. IsBranch says that such a block reads the field, also through keywords of other tables (leads_to). What a
--- block took stands in cm_blocks: Fields, Places, Values.
+-- block took is in cm_blocks: Fields, Places, Values.
 use Rattle.std.proofs.Common.{◌≡◌, ◌⊎◌, inl, inr, ℕ, zero, suc, ◌<◌, ◌+◌, ◌||◌, ◌&&◌, ◌==◌, Bool, true, false, not, if◌then◌else◌, List, [], ◌∷◌, length, drop, Option, Some, None, is_some, slice_get, refl, ap, sym, subst, ◌∙◌, arith}
 use Rattle.std.specs.List.{find, list_all}
 use Rattle.std.proofs.lemmas.Bool.{and_parts}

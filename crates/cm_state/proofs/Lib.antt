@@ -1,7 +1,6 @@
 pub mod Branches
 mod Edits
 mod Fronts
-pub mod Labels
 pub mod Lines
 mod Logs
 mod Rest

@@ -15,7 +15,7 @@ shown_more line i d within =
     ∙ flat_map-append shown_byte (take i line) (get_or line i d ∷ [])
     ∙ ap (λ (shown : List ℕ). screen_line (take i line) ++ shown) (append-nil (shown_byte (get_or line i d)))
 
--- nothing stands after the end of a line
+-- nothing is after the end of a line
 pub none_goes : (line : List ℕ) → has_join (drop (length line) line) ≡ false
 none_goes line = ap has_join (drop-length line)
 

@@ -104,7 +104,7 @@ cut size count old slice new all same first truncate =
       fields = fields;
     }
 
--- what stands after the last field
+-- what is after the last field
 last_node : (start : ℕ) (fields : List FieldView) (number : ℕ) (field : FieldView) → number + 1 ≡ length fields
     → slice_get fields number ≡ Some field → node_after start fields ≡ field.next
 last_node start [] number field last is = absurd (omega arith)

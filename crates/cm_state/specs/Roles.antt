@@ -1,6 +1,8 @@
 -- What the fields of a line are for.
 use Rattle.std.specs.Prelude.{ℕ, ◌==◌, ◌&&◌, Bool, List, find, Option}
 use Rattle.std.specs.List.{filter}
+use Rattle.std.specs.Option.{option_map}
+use Rattle.cm_fields.specs.declared.value.Value.{Value}
 use Rattle.cm_blocks.specs.declared.function.Role.{Role}
 use Rattle.cm_blocks.specs.declared.function.Role.TheVariants as roles
 use Rattle.cm_blocks.specs.FieldView.{FieldView}
@@ -33,3 +35,7 @@ fields_of wanted fields = filter (λ field. is_role wanted field.role) fields
 -- the first field of a role
 abbrev pub field_of : Role → List FieldView → Option FieldView
 field_of wanted fields = find (λ field. is_role wanted field.role) fields
+
+-- what it stands for
+abbrev pub value_of : Role → List FieldView → Option Value
+value_of wanted fields = option_map (λ (field : FieldView). field.value) (field_of wanted fields)

@@ -14,7 +14,7 @@ pub struct Label {
 
 impl Label {
     /// The name as a prompt holds it.
-    #[tactic(auto, using(crate::proofs::Labels::label_has_name), unfolding(crate::specs::Label::label_of))]
+    #[tactic(auto, using(crate::specs::LabelLaws::label_has_name), unfolding(crate::specs::Label::label_of))]
     pub fn of(name: &Name) -> Label
         ensures value { result ≡ label_of name.now }
         ensures name { label_name result ≡ name.now }

@@ -46,7 +46,7 @@ fn push_fault(fault: Fault, page: &mut Page)
     push_marked(b"@", u64::from(fault.at), page);
 }
 
-// What stands after the last field.
+// What is after the last field.
 #[tactic(auto, unfolding(crate::specs::Log::ending_log))]
 fn push_ending(ending: Ending, page: &mut Page)
     requires { length page.old + 3 * MARKED_ROOM ≤ PAGE_LIMIT }
@@ -60,7 +60,7 @@ fn push_ending(ending: Ending, page: &mut Page)
     }
 }
 
-// The key, the size of the line, and what stands after the last field.
+// The key, the size of the line, and what is after the last field.
 pub(crate) fn push_head(key: u8, size: usize, ending: Ending, page: &mut Page)
     requires { page.old ≡ [] }
     ensures value { page.new ≡ hex key ++ marked (codes " ") size ++ ending_log ending }

@@ -79,7 +79,7 @@ fn phrases_go_on(rt: HostRuntime) -> Result<(), Fail> {
     tries(&rt, rt.alloc(), Question::Completion(Mode::Escape), cases)
 }
 
-// A quoted text goes on where it is closed, and the default stands where nothing is typed. Hook 2 judges alone, and
+// A quoted text goes on where it is closed, and the default is where nothing is typed. Hook 2 judges alone, and
 // hook 1 goes on.
 #[test]
 fn values_go_on(rt: HostRuntime) -> Result<(), Fail> {

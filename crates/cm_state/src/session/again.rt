@@ -88,7 +88,7 @@ impl Session {
         self.hold_refused();
     }
 
-    /// Shows the prompt and the line, as control-R does on a screen that stands at the front of a row: for a program
+    /// Shows the prompt and the line, as control-R does on a screen that is at the front of a row: for a program
     /// that has shown something else in the midst of a line, and has ended that row.
     pub fn show<S: Sink>(&self, sink: &mut S) -> Put
         ensures bytes { Adds (S.contents sink.old) (S.contents sink.new)

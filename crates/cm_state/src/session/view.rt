@@ -4,7 +4,7 @@ ghost use Rattle.std.specs.Option.{option_copied};
 ghost use Rattle.std.specs.Str.{IsAscii};
 ghost use Rattle.cm_text.specs.Text.{IsLine};
 ghost use Rattle.cm_blocks.specs.declared.field.TheConstants.{FIELD_LIMIT};
-ghost use Rattle.cm_state.specs.Roles.{field_of, fields_of, is_role};
+ghost use Rattle.cm_state.specs.Roles.{field_of, fields_of, is_role, value_of};
 ghost use Rattle.cm_state.specs.FieldText.{said, said_of};
 ghost use Rattle.cm_state.specs.SessionState.{text_of};
 
@@ -12,6 +12,7 @@ use crate::Session;
 use crate::held::text_of;
 use crate::said::{said_in, said_of};
 use cm_blocks::{Ending, Field, Grammar, Role};
+use cm_fields::Value;
 
 impl Session {
     /// The whole text: the line, or the line and the CR that finished it.
@@ -47,6 +48,16 @@ impl Session {
         self.nth_of(role, 0)
     }
 
+    /// What the first field of a role stands for. None where no field has it.
+    pub fn value_of(&self, role: Role) -> Option<Value>
+        ensures { result ≡ value_of role self.now.fields }
+    {
+        match self.field_of(role) {
+            Some(field) => Some(*field.value()),
+            None => None,
+        }
+    }
+
     /// The field with this number, from 0, among those of a role, in the order of the line. None where the role has no
     /// more fields than the number.
     pub fn nth_of(&self, role: Role, number: u8) -> Option<&Field>
@@ -67,7 +78,7 @@ impl Session {
     }
 
     /// What a field of this session said, under the grammar that its line was read by. Of a word, a quoted text, a rest
-    /// of a line and the name of a new directory that is what the value spans; of a quoted text it stands between the
+    /// of a line and the name of a new directory that is what the value spans; of a quoted text it is between the
     /// outer quotes, and a quote inside stands twice, of which `cm_fields::unquoted` makes one. Of any other value it
     /// is the field as it was typed. Of a field that was not typed it is all this in the default of its node, or the
     /// whole default.
@@ -90,7 +101,7 @@ impl Session {
         said_of(field, self.text(), grammar)
     }
 
-    /// What stands after the last field.
+    /// What is after the last field.
     pub fn ending(&self) -> &Ending
         ensures { result.now ≡ self.now.ending }
     {

@@ -14,7 +14,7 @@ pub(crate) fn nodes(alloc: Global, text: &str, count: u16) -> Result<Vec<Node>, 
     Ok(nodes)
 }
 
-// What stands after this number.
+// What is after this number.
 fn line_of(text: &str, number: u16) -> Option<&str> {
     for line in text.lines() {
         let (front, blocks) = line.split_once(' ')?;

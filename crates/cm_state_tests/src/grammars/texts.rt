@@ -53,7 +53,7 @@ JOBNAME: 4 43
 NOTE: 5 44";
 
 // Nodes 0 to 8 read fields but files, 9 and 19 dates, 10 to 18 users, directories and files. Node 20 has a block of
-// each kind, 21 and 22 stand after its guide words, 23 has words of its own, 28 has keywords with a help, and the
+// each kind, 21 and 22 are after its guide words, 23 has words of its own, 28 has keywords with a help, and the
 // others end the line or lead there.
 pub(crate) const FIELD_NODES: &str = "\
 0 key 0 > 0

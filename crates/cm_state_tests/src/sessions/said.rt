@@ -106,7 +106,7 @@ pub(crate) fn try_role<L: Ledger>(
 
 // [field-text]
 // A value that is a part of the line is that part, and any other the field as it was typed. Of a field that was not
-// typed it is the default, and of a quoted one what stands between its quotes.
+// typed it is the default, and of a quoted one what is between its quotes.
 #[test]
 fn tells_what_fields_said(rt: HostRuntime) -> Result<(), Fail> {
     let cases = "\

@@ -1,4 +1,4 @@
--- [prompt] What a label holds.
+-- What a label holds.
 use Rattle.std.proofs.Common.{◌≡◌, ◌≤◌, ℕ, List, ◌++◌, length, take, replicate, ap, ◌∙◌}
 use Rattle.std.proofs.Math.Nat.{min-eq_left}
 use Rattle.std.proofs.Math.Seq.{take-append_seam}
@@ -6,7 +6,7 @@ use Rattle.std.specs.Prelude.{◌-◌}
 use Rattle.cm_text.specs.declared.name.TheConstants.{NAME_LIMIT}
 use Rattle.cm_state.specs.Label.{label_name, label_of}
 
--- the label of a name has that name
+-- [prompt] the label of a name has that name
 pub label_has_name : (name : List ℕ) → length name ≤ NAME_LIMIT → label_name (label_of name) ≡ name
 unfolding label_name label_of
 label_has_name name fits =
