@@ -46,7 +46,7 @@ module _ {S : Type 0} where
   no_acts [] = Unit {0}
   no_acts (event ∷ events) = (is_act event ≡ false) × no_acts events
 
-  -- an act after events of which none is one stands after all of them
+  -- an act after events of which none is one is after all of them
   after_all : (front rest first more : List (Event S)) (left : S) → no_acts front → first ++ Act left ∷ more ≡ front ++ rest
       → (between : List (Event S)) × (first ≡ front ++ between)
   unfolding is_act no_acts
@@ -65,7 +65,7 @@ module _ {S : Type 0} where
   log_acts true line none = (none, tt)
   log_acts false line none = tt
 
-  -- an act of a key stands after its echo and its line of the log
+  -- an act of a key is after its echo and its line of the log
   pub acts_after : (m : Semantics S) (logging : Bool) (at : RunState S) (key : ℕ) (first more : List (Event S)) (left : S)
       → first ++ Act left ∷ more ≡ key_trace m logging at key
       → (between : List (Event S)) × (first ≡ Trials (keystroke m at key).cost ∷ Screen (keystroke m at key).echo

@@ -2,6 +2,7 @@
 use Rattle.std.proofs.Common.{ℕ, List, [], ◌∷◌, ◌++◌, inl, inr, refl, ap, sym, subst, ◌∙◌, append_assoc, append-nil}
 use Rattle.std.specs.List.{flat_map}
 use Rattle.cm_text.specs.ScreenBytes.{end_of_line}
+use Rattle.cm_io.specs.Pieces.{shown_line, shown_lines}
 use Rattle.cm_run.specs.Semantics.{Effect}
 use Rattle.cm_run.specs.Obey.{replies}
 use Rattle.cm_run.specs.Shows.{EndsLine, IsEnded}
@@ -31,6 +32,11 @@ ends_both first more (inr ended) ends = inr (ended_then first more ended ends)
 pub ends_each : {X : Type 0} (f : X → List ℕ) → ((x : X) → EndsLine (f x)) → (xs : List X) → EndsLine (flat_map f xs)
 ends_each f ends [] = inl refl
 ends_each f ends (x ∷ xs) = ends_both (f x) (flat_map f xs) (ends x) (ends_each f ends xs)
+
+-- whole lines
+pub lines_end : (lines : List (List ℕ)) → EndsLine (shown_lines lines)
+unfolding shown_lines
+lines_end lines = ends_each shown_line (λ line. inr (ended_after line end_of_line eol_ends)) lines
 
 -- one act
 pub ends_effect : {S : Type 0} (effect : Effect S) → EndsLine effect.reply → EndsLine (replies (effect ∷ []))

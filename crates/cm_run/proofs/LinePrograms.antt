@@ -3,30 +3,27 @@
 -- says which (LineProgram::names(self)). What acts is two functions, one that writes the reply and one that changes. A
 -- match with constants in its patterns closes with nothing; so does a guard before a _ that puts nothing, where the
 -- definition has a catch-all.
-use Rattle.std.proofs.Common.{◌≡◌, ◌≢◌, ℕ, true, List, Result, Ok, Err, inl, refl, sym, ap, ◌∙◌, arith}
-use Rattle.std.specs.Prelude.{Option, None, Some, IfSome}
-use Rattle.cm_io.specs.Display.{ArePrinted}
+use Rattle.std.proofs.Common.{◌≡◌, ◌≢◌, ℕ, Bool, true, false, List, Result, Ok, Err, inl, refl, sym, ap, ◌∙◌, arith}
+use Rattle.std.specs.Prelude.{Option, None, Some}
 use Rattle.cm_io.specs.Fault.{Rose}
-use Rattle.cm_state.specs.Echo.{prompt_text}
 use Rattle.cm_state.specs.SessionState.{SessionState}
 use Rattle.cm_state.specs.declared.prompt.Prompt.{Prompt}
 use Rattle.cm_state.specs.declared.turn.Turn.{Turn}
 use Rattle.cm_state.specs.declared.turn.Turn.TheVariants as turn
 use Rattle.cm_run.specs.Cause.{Counts, RunCause, counts}
 use Rattle.cm_run.specs.Event.{Event, state_after}
-use Rattle.cm_run.specs.Idle.{turn_at}
+use Rattle.cm_run.specs.Idle.{EndsOnlyWhere, turn_at}
 use Rattle.cm_run.specs.Keeping.{HasPrintedPrompt, IsLineKeeping, is_line}
-use Rattle.cm_run.specs.LineSemantics.{LineSemantics, line_effect, line_mode, lines_only}
+use Rattle.cm_run.specs.LineSemantics.{HasPrinted, LineSemantics, line_effect, line_mode, lines_only}
 use Rattle.cm_run.specs.LineRun.{LineCause}
 use Rattle.cm_run.specs.Semantics.{IsSparing}
-use Rattle.cm_run.specs.Shows.{EndsLine}
 use Rattle.cm_run.specs.Trace.{RunState, step}
 use Rattle.cm_run.specs.declared.engine.TheConstants.{FILE_LINES}
 use Rattle.cm_run.specs.declared.mode.Mode.TheVariants as mode
 use Rattle.cm_run.specs.declared.stop.Stop.{Stop}
 use Rattle.cm_run.specs.declared.stop.Stop.TheVariants as stop
 use Rattle.cm_run.proofs.Fileless.{no_files}
-use Rattle.cm_run.proofs.LineEnds.{ends_effect}
+use Rattle.cm_run.proofs.LineEnds.{ends_effect, lines_end}
 use Rattle.cm_run.proofs.LineTurns.{confirmed_leads, idle_stays, moment_of, session_at}
 
 -- a log that counts no fault does not fail
@@ -71,8 +68,27 @@ module _ {S : Type 0} (p : LineSemantics S) where
     by turn.Edited is = absurd (stays (λ done. let wrong : turn.Edited ≡ turn.Confirmed = sym is ∙ done in absurd (cc)))
     by turn.Failed is = absurd (stays (λ done. let wrong : turn.Failed ≡ turn.Confirmed = sym is ∙ done in absurd (cc)))
 
-  -- its lines stay on the screen, where its prompts are printed and its replies end their lines
-  printed : (line : Option (ℕ × Prompt)) → IfSome line (λ (it : ℕ × Prompt). ArePrinted (prompt_text it.1)) → HasPrintedPrompt (line_mode line)
+  -- and such a line alone ends it
+  pub end_confirms : (at : RunState S) (key : ℕ) → is_line ((lines_only p).mode_of at.state) ≡ true
+      → is_line ((lines_only p).mode_of (step (lines_only p) at key).state) ≡ false
+      → turn_at (lines_only p) at key ≡ turn.Confirmed
+  end_confirms at key line over = change_confirms at key line (λ same.
+      let wrong : true ≡ false = sym line ∙ ap (λ (it : S). is_line ((lines_only p).mode_of it)) (sym same) ∙ over in
+      absurd (cc))
+
+  -- one that passes a test which each line passes that leaves it ended
+  pub ends_only : (test : SessionState → Bool)
+      → ((state : S) (session : SessionState) → is_line (line_mode (p.line_of (p.state_of state session))) ≡ false
+      → test session ≡ true) → EndsOnlyWhere p test
+  ends_only test ends = λ at key line over.
+      let is = end_confirms at key line over in (
+        is,
+        ends at.state (session_at (lines_only p) at key)
+            (ap (λ (it : S). is_line (line_mode (p.line_of it))) (sym (confirmed_leaves at key line is)) ∙ over),
+      )
+
+  -- its lines stay on the screen, where its prompts are printed
+  printed : (line : Option (ℕ × Prompt)) → HasPrinted line → HasPrintedPrompt (line_mode line)
   printed (Some line) is = is
   printed None is = tt
 
@@ -80,11 +96,10 @@ module _ {S : Type 0} (p : LineSemantics S) where
   never_raw (Some line) is = cc
   never_raw None is = cc
 
-  pub keeps_lines : ((state : S) → IfSome (p.line_of state) (λ (it : ℕ × Prompt). ArePrinted (prompt_text it.1)))
-      → ((state : S) (session : SessionState) → EndsLine (p.reply_of state session)) → IsLineKeeping (lines_only p)
-  keeps_lines prompts ends = record {
+  pub keeps_lines : ((state : S) → HasPrinted (p.line_of state)) → IsLineKeeping (lines_only p)
+  keeps_lines prompts = record {
     prompts = λ state. printed (p.line_of state) (prompts state);
-    lines = λ state session moment. ends_effect (line_effect p state session) (ends state session);
+    lines = λ state session moment. ends_effect (line_effect p state session) (lines_end (p.reply_of state session));
     file_lines = λ state session moment. inl refl;
     raw_keys = λ state key is line. absurd (never_raw (p.line_of state) is);
   }

@@ -23,7 +23,7 @@ or_none : (a : Bool) → (a || false) ≡ a
 or_none true = refl
 or_none false = refl
 
--- no key stands before what stands first among events without keys
+-- no key is before what is first among events without keys
 no_front : (first more : List ℕ) → first ++ more ≡ [] → first ≡ []
 no_front [] more none = refl
 no_front (key ∷ first) more none = absurd (cc)
@@ -137,7 +137,7 @@ module _ {S : Type 0} where
           there = subst (λ (it : RunState S). asks (key_trace m logging it asked.last.key) ≡ true) (sym same) asked.there;
         }
 
-    -- what stands of a key before what it does, and what stands after it
+    -- what stands of a key before what it does, and what is after it
     abbrev front_of : ℕ → List (Event S)
     front_of key = Ask ∷ Key key ∷ []
 

@@ -10,6 +10,7 @@ pub mod Moments
 pub mod Obey
 pub mod Observation
 pub mod Progress
+pub mod PromptLaws
 pub mod Ready
 pub mod Semantics
 pub mod Shows

@@ -11,7 +11,7 @@ use Rattle.cm_run.specs.declared.line_program.TheConstants.{LINE_KEYS}
 use Rattle.cm_run.specs.declared.stop.Stop.{Stop}
 use Rattle.cm_run.specs.declared.stop.Stop.TheVariants as stop
 
--- what stands at its end: its trace, or a cut of it, without a log and without moments; how many keys were taken; and
+-- what is at its end: its trace, or a cut of it, without a log and without moments; how many keys were taken; and
 -- what each of them met is sound
 pub record LineRun {S : Type 0} (p : LineSemantics S) (before now : Observation S) (result : Result Unit Stop)
     : Type 0 where

@@ -18,7 +18,7 @@ pub record IsClear (held : SessionState) : Type 0 where
   pub empty : IfSome held.recall (λ (bytes : List ℕ). line_before held ≡ [])
 
 -- what the last row holds where a line is added to it after these bytes: each TAB as a space, and nothing of what
--- stands before a join byte, which begins a row of its own
+-- is before a join byte, which begins a row of its own
 abbrev pub row_after : List ℕ → List ℕ → List ℕ
 row_after row [] = row
 row_after row (byte ∷ line) = row_after (if byte == JOIN then [] else row ++ screen_byte byte ∷ []) line
@@ -31,7 +31,7 @@ prompt_and_line held = row_after (prompt_text held.prompt) (line_before held)
 abbrev pub Shows : {D : Type 0} → (D → List ℕ → Type 0) → D → SessionState → Type 0
 Shows Holds display held = Holds display (prompt_and_line held)
 
--- what stands after the echo of a key: nothing where it finishes or gives up the line, and else prompt and line, which
+-- what is after the echo of a key: nothing where it finishes or gives up the line, and else prompt and line, which
 -- are nothing too where it continues the line
 abbrev pub ShowsAfter : {D : Type 0} → (D → List ℕ → Type 0) → KeyClass → D → SessionState → Type 0
 ShowsAfter Holds End display held = Holds display []

@@ -1,5 +1,5 @@
-// Laws of every run, whatever the application, and of what displays show of it.
-ghost use Rattle.std.specs.Prelude.{◌≡◌, ◌⊎◌, ◌+◌, ◌<◌, ◌^◌, ◌-◌, ℕ, Bool, false, List, [], ◌∷◌, ◌++◌, None, Result, Ok, Err, Option, IfSome, map};
+// Laws of every run, whatever the application, of what displays show of it, and of programs of lines alone.
+ghost use Rattle.std.specs.Prelude.{◌≡◌, ◌⊎◌, ◌+◌, ◌<◌, ◌^◌, ◌-◌, ℕ, Bool, false, List, [], ◌∷◌, ◌++◌, None, Result, Ok, Err, Option, IfSome, map, ◌≢◌, true};
 ghost use Rattle.cm_text.specs.ScreenBytes.{screen_byte};
 ghost use Rattle.cm_text.specs.Text.{IsLine};
 ghost use Rattle.cm_text.specs.declared.text.TheConstants.{JOIN};
@@ -18,17 +18,22 @@ ghost use Rattle.cm_state.specs.Edit.{edited};
 ghost use Rattle.cm_run.specs.Cause.{Counts, KeyCount, RunCause};
 ghost use Rattle.cm_run.specs.Cut.{Traces};
 ghost use Rattle.cm_run.specs.Event.{Act, Event, Log, Screen, Trials, gets_after, keys_of, log_bytes, moments_after, screen_bytes, state_after, trials_of};
-ghost use Rattle.cm_run.specs.Semantics.{Semantics};
+ghost use Rattle.cm_run.specs.Semantics.{Semantics, setting_of};
 ghost use Rattle.cm_run.specs.Observation.{Observation};
 ghost use Rattle.cm_run.specs.Progress.{keys_cost, progress, keystroke_cost, MeetSound};
-ghost use Rattle.cm_run.specs.Trace.{RunState, events_if, key_trace, keystroke, run_trace, starting, turn_outcome};
+ghost use Rattle.cm_run.specs.Trace.{RunState, events_if, key_trace, keystroke, run_trace, starting, turn_outcome, step};
 ghost use Rattle.cm_run.specs.declared.engine.TheConstants.{FILE_LINES};
 ghost use Rattle.cm_run.specs.declared.line_program.TheConstants.{LINE_KEYS};
-ghost use Rattle.cm_run.specs.Keeping.{IsLineKeeping, KeepsLine};
+ghost use Rattle.cm_run.specs.Keeping.{IsLineKeeping, KeepsLine, is_line};
 ghost use Rattle.cm_run.specs.Shows.{EndsLine, IsClear, Shows, ShowsAfter, row_after};
 ghost use Rattle.cm_run.specs.Sound.{IsSound};
+ghost use Rattle.cm_line.specs.declared.key.KeyClass.TheVariants as classes;
+ghost use Rattle.cm_run.specs.Idle.{EndsOnlyWhere, IsIdle, turn_at};
+ghost use Rattle.cm_run.specs.LineSemantics.{LineSemantics, line_mode, lines_only};
+ghost use Rattle.cm_run.specs.Obey.{left_by};
+ghost use Rattle.cm_run.specs.LineRun.{LineRun};
 
-use crate::{Application, Display, Stop};
+use crate::{Application, Display, LineProgram, Stop};
 
 /// Nothing acts before confirmation: a line that goes on does nothing and takes no moment, and one that is refused
 /// takes none, and does no more than what the application means by a refusal, which shows nothing and takes no memory.
@@ -44,7 +49,7 @@ pub fn only_a_line_that_is_done_acts<A: Application>()
 {}
 
 /// Nothing acts before the key that confirms it is shown whole, and logged where there is a log: whatever of the trace
-/// of a key stands before an act begins with its trials, its echo and its line of the log.
+/// of a key is before an act begins with its trials, its echo and its line of the log.
 pub fn nothing_acts_before_its_line_is_logged<A: Application>()
     ensures { (m : Semantics A) → (logging : Bool) → (at : RunState A) → (key : ℕ)
         → (first more : List (Event A)) → (left : A) → first ++ Act left ∷ more ≡ key_trace m logging at key
@@ -61,7 +66,7 @@ pub fn a_cut_run_is_a_beginning<A: Application>()
         → Traces before now events result → AddsPart before.log now.log (log_bytes events) }
 {}
 
-/// What stands at a cut is exact: the keys that are taken and how often keys were asked for, the moments, the counter
+/// What is at a cut is exact: the keys that are taken and how often keys were asked for, the moments, the counter
 /// of trials and the state are those of the events before the one that was cut, and no key is taken after it.
 pub fn what_stands_at_a_cut_is_exact<A: Application>()
     ensures { (before now : Observation A) → (events : List (Event A)) → (why : Stop)
@@ -117,7 +122,7 @@ pub fn the_prompts_are_printed()
     ensures sub { ArePrinted (prompt_text Sub) }
 {}
 
-/// A line without a join byte stands after its prompt in one row, each TAB as a space.
+/// A line without a join byte is after its prompt in one row, each TAB as a space.
 pub fn a_line_without_a_join_is_one_row()
     ensures { (prompt line : List ℕ) → has_join line ≡ false
         → row_after prompt line ≡ prompt ++ map screen_byte line }
@@ -163,4 +168,61 @@ pub fn a_reply_ends_its_line<D: Display>()
 pub fn a_run_keeps_the_screen<A: Application, D: Display>()
     ensures { (m : Semantics A) → IsLineKeeping m → (state : A) → (moments keys : List ℕ)
         → MeetSound m (starting m state moments) keys → KeepsLine D.feed D.holds m state moments keys }
+{}
+
+/// Only an End key confirms a line. A key of a line that is refused leaves what the application means by a refusal, one
+/// with which it is given up what it means by that, and one with which it goes on leaves all as it is.
+pub fn a_line_that_is_not_confirmed_does_not_act<A: Application>()
+    ensures confirmed { (m : Semantics A) → (at : RunState A) → (key : ℕ) → turn_at m at key ≡ turn.Confirmed
+        → class_at (line_before at.session) key ≡ classes.End }
+    ensures refused { (m : Semantics A) → (at : RunState A) → (key : ℕ) → (fault : Fault)
+        → is_line (m.mode_of at.state) ≡ true → turn_at m at key ≡ turn.Refused fault
+        → (step m at key).state ≡ m.refusal at.state }
+    ensures given_up { (m : Semantics A) → (at : RunState A) → (key : ℕ)
+        → is_line (m.mode_of at.state) ≡ true → turn_at m at key ≡ turn.Abandoned
+        → (step m at key).state ≡ m.abandonment at.state }
+    ensures going_on { (m : Semantics A) → (at : RunState A) → (key : ℕ)
+        → is_line (m.mode_of at.state) ≡ true → turn_at m at key ≡ turn.Edited
+        → (step m at key).state ≡ at.state }
+{}
+
+/// A raw key leaves what its acts leave.
+pub fn a_raw_key_does_its_acts<A: Application>()
+    ensures { (m : Semantics A) → (at : RunState A) → (key : ℕ) → is_line (m.mode_of at.state) ≡ false
+        → (step m at key).state ≡ left_by at.state (m.raw_effects at.state key) }
+{}
+
+/// Of an application of which refusals and abandonment change nothing that is seen, nothing that is seen is changed by
+/// a key of a line, but by one that confirms it.
+pub fn an_idle_application_changes_where_a_line_is_confirmed<A: Application, V>()
+    ensures { (m : Semantics A) → (seen : A → V) → IsIdle m seen → (at : RunState A) → (key : ℕ)
+        → is_line (m.mode_of at.state) ≡ true → turn_at m at key ≢ turn.Confirmed
+        → seen (step m at key).state ≡ seen at.state }
+{}
+
+/// Until a program of lines alone has ended, a key that confirms a line leaves the state that the line leaves, and any
+/// other key leaves all as it is: so it ends only where such a line leaves it ended.
+pub fn a_line_program_changes_where_a_line_is_confirmed<P: LineProgram>()
+    ensures confirmed { (p : LineSemantics P) → (at : RunState P) → (key : ℕ)
+        → is_line ((lines_only p).mode_of at.state) ≡ true → turn_at (lines_only p) at key ≡ turn.Confirmed
+        → (step (lines_only p) at key).state
+        ≡ p.state_of at.state (edited (setting_of (lines_only p) at.state) at.session key) }
+    ensures other { (p : LineSemantics P) → (at : RunState P) → (key : ℕ)
+        → is_line ((lines_only p).mode_of at.state) ≡ true → turn_at (lines_only p) at key ≢ turn.Confirmed
+        → (step (lines_only p) at key).state ≡ at.state }
+    ensures ends { (p : LineSemantics P) → (test : SessionState → Bool)
+        → ((state : P) → (session : SessionState) → is_line (line_mode (p.line_of (p.state_of state session))) ≡ false
+        → test session ≡ true) → EndsOnlyWhere p test }
+{}
+
+/// A program of lines alone keeps its lines: its prompts are printed bytes, and what it shows are whole lines.
+pub fn a_line_program_keeps_its_lines<P: LineProgram>()
+    ensures { IsLineKeeping (lines_only P.means) }
+{}
+
+/// So after each beginning of the keys that its run has taken a display shows prompt and line, until it has ended.
+pub fn a_line_program_keeps_the_screen<P: LineProgram, D: Display>()
+    ensures { (before now : Observation P) → (result : Result Unit Stop) → LineRun P.means before now result
+        → (taken rest : List ℕ) → (taken ++ rest) ++ now.keys ≡ before.keys
+        → KeepsLine D.feed D.holds (lines_only P.means) before.state [] taken }
 {}

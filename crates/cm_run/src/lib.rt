@@ -8,12 +8,12 @@ mod engine;
 mod key;
 pub mod laws;
 mod line;
-pub mod line_laws;
 mod line_program;
 mod mode;
 mod no_clock;
 mod single_line;
 mod stop;
+mod streams;
 
 pub use application::Application;
 pub use display::Display;
@@ -24,3 +24,4 @@ pub use mode::Mode;
 pub use no_clock::NoClock;
 pub use single_line::run_line;
 pub use stop::Stop;
+pub use streams::run_over_streams;

@@ -1,6 +1,13 @@
 // Programs that act by lines alone.
-ghost use Rattle.std.specs.Prelude.{◌≡◌, [], IsTrue};
-ghost use Rattle.cm_io.specs.Contents.{Number};
+ghost use Rattle.std.specs.Prelude.{◌≡◌, ◌≤◌, [], IsTrue};
+ghost use Rattle.cm_io.specs.Contents.{Adds, Number};
+ghost use Rattle.cm_io.specs.Fault.{PutCause};
+ghost use Rattle.cm_io.specs.Pieces.{shown_lines};
+ghost use Rattle.cm_blocks.specs.Parse.{IsParse};
+ghost use Rattle.cm_blocks.specs.declared.field.Ending.TheVariants as ending;
+ghost use Rattle.cm_state.specs.SessionState.{text_of};
+ghost use Rattle.cm_run.specs.LineSemantics.{line_mode, lines_only};
+ghost use Rattle.cm_run.specs.Semantics.{IsLineAt, setting_of};
 ghost use Rattle.cm_run.specs.LineRun.{LineCause, LineRun, status_of};
 ghost use Rattle.cm_run.specs.Observation.{observation};
 
@@ -8,24 +15,25 @@ use crate::{Application, Mode, NoClock, Stop, run};
 use cm_blocks::{Grammar, Steps};
 use cm_files::Names;
 use cm_hooks::Rules;
-use cm_io::{CountSink, Put, Sink, Source};
+use cm_io::{CountSink, Put, Sink, Source, Writer};
 use cm_state::{Prompt, Session};
 use std::sync::ledger::Ledger;
 
 /// The most keys that the run of such a program takes.
 pub const LINE_KEYS: u64 = u64::MAX;
 
-/// A program that acts by lines alone: a line that is confirmed changes its state and shows a reply, and nothing else
-/// does. It takes no raw keys, no command files, no moments and no memory. Each such program is an `Application`, and
-/// `run_line_program` runs it.
+/// A program that acts by lines alone: a line that is confirmed changes its state and shows lines, and nothing else
+/// does. It takes no raw keys, no command files, no moments and no memory. Each such program is an `Application`,
+/// `run_line_program` runs it, and a display shows its prompt and line between the keys
+/// ([`laws`](crate::laws::a_line_program_keeps_the_screen)).
 pub trait LineProgram {
-    ghost use Rattle.std.specs.Prelude.{◌≡◌, ◌≤◌, ◌<◌, IfSome, length};
-    ghost use Rattle.cm_io.specs.Fault.{PutCause};
-    ghost use Rattle.cm_io.specs.Contents.{Adds};
+    ghost use Rattle.std.specs.Prelude.{◌≡◌, ◌<◌, IfSome, length};
+    ghost use Rattle.cm_io.specs.Pieces.{shown_lines};
+    ghost use Rattle.cm_io.specs.Writer.{Writes};
     ghost use Rattle.cm_blocks.specs.Parse.{IsParse};
     ghost use Rattle.cm_blocks.specs.declared.field.Ending.TheVariants as ending;
     ghost use Rattle.cm_state.specs.SessionState.{text_of};
-    ghost use Rattle.cm_run.specs.LineSemantics.{LineSemantics, line_mode, lines_only};
+    ghost use Rattle.cm_run.specs.LineSemantics.{HasPrinted, LineSemantics, line_mode, lines_only};
     ghost use Rattle.cm_run.specs.Semantics.{IsLineAt, setting_of};
 
     /// What it says of its own kinds of field.
@@ -36,6 +44,9 @@ pub trait LineProgram {
 
     /// What it means.
     ghost means: { LineSemantics Self };
+
+    /// Its prompts are printed bytes.
+    ghost prompts: { (state : Self) → HasPrinted (means.line_of state) };
 
     /// The directories and files that a line may name now.
     fn names(&self) -> &Self::Names
@@ -51,18 +62,37 @@ pub trait LineProgram {
         ensures line { result ≡ means.line_of self.now }
         ensures node { IfSome result (λ line. line.0 < length means.graph.nodes) };
 
-    /// Does what a confirmed line commands, and shows the reply. The state is that of the line also where the screen
-    /// fails. Where the program has ended by then, it has before it puts its reply.
-    fn obey<S: Sink>(&mut self, session: &Session, grammar: &Grammar, screen: &mut S) -> Put
+    /// Does what a confirmed line commands, and writes the lines that it shows. The state is that of the line also
+    /// where the screen fails.
+    fn obey<S: Sink>(&mut self, session: &Session, grammar: &Grammar, out: &mut Writer<'_, S>)
         requires grammar { grammar.now ≡ means.graph }
         requires line { IsLineAt (line_mode (means.line_of self.old)) session.now.node }
         requires parse { IsParse (setting_of (lines_only means) self.old) session.now.node (text_of session.now)
             session.now.fields ending.Done }
         ensures state { self.new ≡ means.state_of self.old session.now }
-        ensures reply { Adds (S.contents screen.old) (S.contents screen.new)
-            (means.reply_of self.old session.now) result }
-        ensures later { S.faults screen.old ≤ S.faults screen.new }
-        ensures cause { PutCause (S.faults screen.old) (S.faults screen.new) result };
+        ensures reply { Writes S.Sink out.old out.new (shown_lines (means.reply_of self.old session.now)) };
+}
+
+// Does what a confirmed line commands, and puts what it shows.
+fn obey_on<P: LineProgram, S: Sink>(
+    program: &mut P,
+    session: &Session,
+    grammar: &Grammar,
+    screen: &mut S,
+) -> Put
+    requires grammar { grammar.now ≡ P.means.graph }
+    requires line { IsLineAt (line_mode (P.means.line_of program.old)) session.now.node }
+    requires parse { IsParse (setting_of (lines_only P.means) program.old) session.now.node (text_of session.now)
+        session.now.fields ending.Done }
+    ensures state { program.new ≡ P.means.state_of program.old session.now }
+    ensures reply { Adds (S.contents screen.old) (S.contents screen.new)
+        (shown_lines (P.means.reply_of program.old session.now)) result }
+    ensures later { S.faults screen.old ≤ S.faults screen.new }
+    ensures cause { PutCause (S.faults screen.old) (S.faults screen.new) result }
+{
+    let mut out = Writer::new(screen);
+    program.obey(session, grammar, &mut out);
+    out.outcome()
 }
 
 impl<P: LineProgram> Application for P {
@@ -101,7 +131,7 @@ impl<P: LineProgram> Application for P {
         _moment: u64,
         screen: &mut S,
     ) -> Result<(), Stop> {
-        match self.obey(session, grammar, screen) {
+        match obey_on(self, session, grammar, screen) {
             Put::Done => Ok(()),
             Put::Failed => Err(Stop::Screen),
         }
@@ -139,6 +169,7 @@ impl<P: LineProgram> Application for P {
 
 /// Runs a program of lines alone: shows the first prompt and takes the keys in turn, until the program has ended, no
 /// key is left, or keys or screen fail. There is no log and no clock.
+#[tactic(auto, using(crate::proofs::LinePrograms::line_cause))]
 pub fn run_line_program<P: LineProgram, K: Source, S: Sink, L: Ledger>(
     program: &mut P,
     grammar: &Grammar,

@@ -1,5 +1,5 @@
 use Rattle.cm_run.proofs.LineTurns.{abandonment_leads, confirmed_by_end, edit_leads, refusal_leads}
-use Rattle.cm_run.proofs.line_laws.a_line_that_is_not_confirmed_does_not_act.Goals as goal
+use Rattle.cm_run.proofs.laws.a_line_that_is_not_confirmed_does_not_act.Goals as goal
 
 pub returns-clause-confirmed : goal.returns-clause-confirmed
 returns-clause-confirmed g c = confirmed_by_end

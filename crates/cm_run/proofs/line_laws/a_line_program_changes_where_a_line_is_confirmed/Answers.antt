@@ -1,8 +1,0 @@
-use Rattle.cm_run.proofs.LinePrograms.{confirmed_leaves, unconfirmed_stays}
-use Rattle.cm_run.proofs.line_laws.a_line_program_changes_where_a_line_is_confirmed.Goals as goal
-
-pub returns-clause-confirmed : goal.returns-clause-confirmed
-returns-clause-confirmed g c = confirmed_leaves
-
-pub returns-clause-other : goal.returns-clause-other
-returns-clause-other g c = unconfirmed_stays

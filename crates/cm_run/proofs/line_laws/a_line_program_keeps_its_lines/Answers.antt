@@ -1,5 +1,0 @@
-use Rattle.cm_run.proofs.LinePrograms.{keeps_lines}
-use Rattle.cm_run.proofs.line_laws.a_line_program_keeps_its_lines.Goals as goal
-
-pub returns : goal.returns
-returns g c = keeps_lines
