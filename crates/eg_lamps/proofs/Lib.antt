@@ -1,4 +1,2 @@
-pub mod Changes
 pub mod Faultless
 mod Keys
-pub mod Replies

@@ -1,15 +1,13 @@
 -- What a confirmed line commands.
 use Rattle.std.specs.Prelude.{ℕ, ◌==◌, List, take, if◌then◌else◌, Option, None, Some}
-use Rattle.std.specs.Option.{option_map}
 use Rattle.cm_text.specs.declared.name.TheConstants.{NAME_LIMIT}
 use Rattle.cm_fields.specs.Quoted.{unquoted}
 use Rattle.cm_fields.specs.declared.value.Value.{Value}
 use Rattle.cm_fields.specs.declared.value.Value.TheVariants as values
-use Rattle.cm_blocks.specs.declared.function.Role.{Role}
 use Rattle.cm_blocks.specs.declared.function.Role.TheVariants as roles
 use Rattle.cm_blocks.specs.FieldView.{FieldView}
 use Rattle.cm_state.specs.SessionState.{SessionState, text_of}
-use Rattle.cm_state.specs.Roles.{field_of}
+use Rattle.cm_state.specs.Roles.{field_of, value_of}
 use Rattle.cm_state.specs.FieldText.{said}
 use Rattle.eg_lamps.specs.Graph.{lamp_graph}
 use Rattle.eg_lamps.specs.declared.lamps.Change.{Change}
@@ -18,10 +16,6 @@ use Rattle.eg_lamps.specs.declared.lamps.Command.{Command}
 use Rattle.eg_lamps.specs.declared.lamps.Command.TheVariants as commands
 use Rattle.eg_lamps.specs.declared.command.TheConstants.{NO_ROOM, STEP}
 use Rattle.eg_lamps.specs.declared.grammar.TheConstants.{DIM, LIST, QUIT}
-
--- what the first field of a role stands for
-abbrev pub value_of : Role → List FieldView → Option Value
-value_of role fields = option_map (λ (field : FieldView). field.value) (field_of role fields)
 
 -- the number of a room, or one that no room has
 abbrev pub room_of : Option Value → ℕ

@@ -1,16 +1,27 @@
--- The lamps, what a command makes of them, and what it shows.
-use Rattle.std.specs.Prelude.{ℕ, ◌-◌, ◌==◌, nat_le, if◌then◌else◌, List, [], ◌++◌, length, codes, map, slice_get, slice_set}
+-- The lamps of some rooms, what a command makes of them, and what it shows.
+use Rattle.std.proofs.Common.{refl}
+use Rattle.std.specs.Prelude.{◌≡◌, ℕ, ◌-◌, ◌==◌, nat_le, true, if◌then◌else◌, List, [], ◌∷◌, ◌++◌, length, codes, map, slice_get, slice_set}
 use Rattle.std.specs.Fmt.{decimal}
-use Rattle.std.specs.List.{flat_map}
 use Rattle.std.specs.Option.{option_map_or}
-use Rattle.cm_text.specs.ScreenBytes.{end_of_line}
+use Rattle.cm_text.specs.Bytes.{is_name, is_word}
+use Rattle.cm_hooks.specs.Among.{are_names}
 use Rattle.eg_lamps.specs.declared.lamps.Change.{Change}
 use Rattle.eg_lamps.specs.declared.lamps.Change.TheVariants.{Set, Dim, Note}
 use Rattle.eg_lamps.specs.declared.lamps.Command.{Command}
 use Rattle.eg_lamps.specs.declared.lamps.Command.TheVariants as commands
 use Rattle.eg_lamps.specs.declared.lamps.Lamp.{Lamp}
 use Rattle.eg_lamps.specs.declared.lamps.TheConstants.{BRIGHTEST}
-use Rattle.eg_lamps.specs.Rooms.{rooms}
+
+-- the rooms, in the order of their numbers
+abbrev pub rooms : List (List ℕ)
+rooms = codes "HALL" ∷ codes "KITCHEN" ∷ codes "STAIRS" ∷ codes "STUDY" ∷ []
+
+pub rooms_are_names : are_names rooms ≡ true
+unfolding is_name is_word
+rooms_are_names = refl
+
+unfoldable pub room_help : List ℕ
+room_help = codes "room"
 
 -- the lamp of a room, dark and with no note
 abbrev pub dark : List ℕ → Lamp
@@ -31,23 +42,16 @@ obeyed (commands.Change room change) lamps =
     option_map_or (λ (lamp : Lamp). slice_set lamps room (changed change lamp)) (slice_get lamps room) lamps
 obeyed command lamps = lamps
 
-unfoldable pub blank : List ℕ
-blank = codes " "
-
 -- the line of a lamp: `HALL 40`, and its note
 unfoldable pub lamp_line : Lamp → List ℕ
 lamp_line lamp =
-    lamp.room ++ blank ++ decimal lamp.brightness ++ (if length lamp.note == 0 then [] else blank) ++ lamp.note
-    ++ end_of_line
-
-unfoldable pub lamp_lines : List Lamp → List ℕ
-lamp_lines lamps = flat_map lamp_line lamps
+    lamp.room ++ codes " " ++ decimal lamp.brightness ++ (if length lamp.note == 0 then [] else codes " ") ++ lamp.note
 
 unfoldable pub too_bright : List ℕ
 too_bright = codes "?Brightness is 0 to 100"
 
--- what a command shows: SET past the limit that it is refused, and LIST the lamps, which it leaves as they are
-abbrev pub reply : Command → List Lamp → List ℕ
-reply (commands.Change room (Set level)) lamps = if nat_le level BRIGHTEST then [] else too_bright ++ end_of_line
-reply commands.List lamps = lamp_lines lamps
+-- the lines that a command shows: SET past the limit that it is refused, and LIST the lamps
+abbrev pub reply : Command → List Lamp → List (List ℕ)
+reply (commands.Change room (Set level)) lamps = if nat_le level BRIGHTEST then [] else too_bright ∷ []
+reply commands.List lamps = map lamp_line lamps
 reply command lamps = []

@@ -3,7 +3,7 @@ ghost use Rattle.std.specs.Prelude.{◌≡◌};
 ghost use Rattle.cm_blocks.specs.declared.function.Role.TheVariants as roles;
 ghost use Rattle.cm_state.specs.Roles.{field_of};
 ghost use Rattle.cm_state.specs.SessionState.{text_of};
-ghost use Rattle.eg_lamps.specs.Command.{change_of, command_of, room_of, value_of};
+ghost use Rattle.eg_lamps.specs.Command.{change_of, command_of};
 ghost use Rattle.eg_lamps.specs.Graph.{lamp_graph};
 
 use crate::grammar::{DIM, LIST, QUIT};
@@ -24,8 +24,11 @@ pub fn command_of(session: &Session, grammar: &Grammar) -> Command
     requires { grammar.now ≡ lamp_graph }
     ensures { result ≡ command_of session.now }
 {
-    let room = room_of(value_of(session, Role::What));
-    match value_of(session, Role::Verb) {
+    let room = match session.value_of(Role::What) {
+        Some(Value::Hook { value, .. }) => value,
+        _ => NO_ROOM,
+    };
+    match session.value_of(Role::Verb) {
         Some(Value::Key { code: LIST, .. }) => Command::List,
         Some(Value::Key { code: QUIT, .. }) => Command::Quit,
         Some(Value::Key { code, .. }) => Command::Change {
@@ -50,25 +53,5 @@ fn change_of(verb: u16, session: &Session, grammar: &Grammar) -> Change
         Value::Number(by) if verb == DIM => Change::Dim(*by),
         Value::Number(level) => Change::Set(*level),
         _ => Change::Dim(STEP),
-    }
-}
-
-// What the first field of a role stands for.
-fn value_of(session: &Session, role: Role) -> Option<Value>
-    ensures { result ≡ value_of role session.now.fields }
-{
-    match session.field_of(role) {
-        Some(field) => Some(*field.value()),
-        None => None,
-    }
-}
-
-// The number of a room.
-fn room_of(value: Option<Value>) -> u64
-    ensures { result ≡ room_of value }
-{
-    match value {
-        Some(Value::Hook { value, .. }) => value,
-        _ => NO_ROOM,
     }
 }

@@ -1,14 +1,17 @@
 // The lamps, what a command makes of them, and what it shows.
-ghost use Rattle.std.specs.Prelude.{◌≡◌, ◌≤◌, length};
-ghost use Rattle.cm_io.specs.Fault.{PutCause};
-ghost use Rattle.cm_io.specs.Contents.{Adds};
-ghost use Rattle.cm_io.specs.Writer.{Writes};
+ghost use Rattle.std.specs.Prelude.{◌≡◌, ◌≤◌, ◌++◌, length, map};
+ghost use Rattle.cm_text.specs.ScreenBytes.{end_of_line};
 ghost use Rattle.cm_text.specs.declared.name.TheConstants.{NAME_LIMIT};
-ghost use Rattle.eg_lamps.specs.Lamps.{blank, changed, dark, dark_lamps, lamp_line, lamp_lines, obeyed, reply};
+ghost use Rattle.cm_io.specs.Pieces.{shown_lines};
+ghost use Rattle.cm_io.specs.Writer.{Writes};
+ghost use Rattle.eg_lamps.specs.Lamps.{changed, dark, dark_lamps, lamp_line, obeyed, reply};
 
-use crate::rooms::ROOMS;
-use cm_io::{Put, Sink, Writer};
+use cm_hooks::Choices;
+use cm_io::{Sink, Writer};
 use cm_text::{NAME_LIMIT, Name, end_of_line};
+
+// The rooms, in the order of their numbers.
+const ROOMS: [&str; 4] = ["HALL", "KITCHEN", "STAIRS", "STUDY"];
 
 /// How bright a lamp may be. A dark one has 0.
 pub const BRIGHTEST: u64 = 100;
@@ -48,6 +51,29 @@ pub enum Command {
     Quit,
 }
 
+/// What the program says of its one kind of field, a room.
+#[derive(Clone, Copy, Debug)]
+pub struct RoomRules;
+
+impl Choices for RoomRules {
+    ghost use Rattle.eg_lamps.specs.Lamps.{room_help, rooms, rooms_are_names};
+
+    ghost choices = { rooms };
+
+    ghost are_names = { rooms_are_names };
+
+    ghost help_text = { room_help };
+
+    fn names(&self) -> &[&str] {
+        &ROOMS
+    }
+
+    #[tactic(auto, unfolding(crate::specs::Lamps::room_help))]
+    fn help(&self) -> Name {
+        Name::new("room")
+    }
+}
+
 /// The lamps of all rooms, dark and with no notes.
 pub fn dark_lamps() -> [Lamp; 4]
     ensures { result ≡ dark_lamps }
@@ -67,24 +93,10 @@ fn dark(room: &str) -> Lamp
     }
 }
 
-/// Does what a command says, and shows its reply, which LIST and a refused SET have. It acts also where the screen
-/// fails.
-pub fn obey<S: Sink>(command: Command, lamps: &mut [Lamp], screen: &mut S) -> Put
+/// Does what a command says. A room that there is not changes nothing.
+#[tactic(auto, using(std::proofs::lemmas::Option::slice_get_read, std::proofs::lemmas::Option::slice_get_past))]
+pub fn obey(command: Command, lamps: &mut [Lamp])
     // [lamp]
-    ensures lamps { lamps.new ≡ obeyed command lamps.old }
-    ensures reply { Adds (S.contents screen.old) (S.contents screen.new) (reply command lamps.old) result }
-    ensures later { S.faults screen.old ≤ S.faults screen.new }
-    ensures cause { PutCause (S.faults screen.old) (S.faults screen.new) result }
-{
-    let mut out = Writer::new(screen);
-    put_reply(&command, lamps, &mut out);
-    change_lamp(command, lamps);
-    out.outcome()
-}
-
-// Changes the lamp of a room, of which there may be none.
-#[tactic(auto, using(crate::proofs::Changes::set_at, crate::proofs::Changes::none_at))]
-fn change_lamp(command: Command, lamps: &mut [Lamp])
     ensures { lamps.new ≡ obeyed command lamps.old }
 {
     if let Command::Change { room, change } = command {
@@ -107,10 +119,10 @@ fn apply(change: Change, lamp: &mut Lamp)
     }
 }
 
-// Shows the reply of a command.
-#[tactic(auto, using(cm_io::proofs::Texts::writes_none), unfolding(crate::specs::Lamps::too_bright))]
-fn put_reply<S: Sink>(command: &Command, lamps: &[Lamp], out: &mut Writer<'_, S>)
-    ensures { Writes S.Sink out.old out.new (reply command.now lamps.now) }
+/// Writes the lines that a command shows, which LIST and a refused SET have.
+#[tactic(auto, using(cm_io::proofs::Texts::lines), unfolding(crate::specs::Lamps::too_bright))]
+pub fn put_reply<S: Sink>(command: &Command, lamps: &[Lamp], out: &mut Writer<'_, S>)
+    ensures { Writes S.Sink out.old out.new (shown_lines (reply command.now lamps.now)) }
 {
     match command {
         Command::Change {
@@ -122,33 +134,25 @@ fn put_reply<S: Sink>(command: &Command, lamps: &[Lamp], out: &mut Writer<'_, S>
     }
 }
 
-// Shows the line of each lamp.
-#[tactic(auto, using(cm_io::proofs::Texts::each), unfolding(crate::specs::Lamps::lamp_lines))]
+#[tactic(auto, using(cm_io::proofs::Texts::each_line))]
 fn put_lamps<S: Sink>(lamps: &[Lamp], out: &mut Writer<'_, S>)
-    ensures { Writes S.Sink out.old out.new (lamp_lines lamps.now) }
+    ensures { Writes S.Sink out.old out.new (shown_lines (map lamp_line lamps.now)) }
 {
     for lamp in lamps {
         put_lamp(lamp, out);
     }
 }
 
-// Shows the line of a lamp: `HALL 40`, and the note after it.
+// Writes the line of a lamp: `HALL 40`, and the note after it.
 #[tactic(auto, using(cm_io::proofs::Texts::texts), unfolding(crate::specs::Lamps::lamp_line))]
 fn put_lamp<S: Sink>(lamp: &Lamp, out: &mut Writer<'_, S>)
-    ensures { Writes S.Sink out.old out.new (lamp_line lamp.now) }
+    ensures { Writes S.Sink out.old out.new (lamp_line lamp.now ++ end_of_line) }
 {
-    out.put(lamp.room.as_bytes());
-    out.put(blank());
-    out.put_decimal(lamp.brightness);
     let note = lamp.note.as_bytes();
-    out.put(if note.is_empty() { b"" } else { blank() });
+    out.put(lamp.room.as_bytes());
+    out.put(b" ");
+    out.put_decimal(lamp.brightness);
+    out.put(if note.is_empty() { b"" } else { b" " });
     out.put(note);
     out.put(end_of_line());
-}
-
-#[tactic(auto, unfolding(crate::specs::Lamps::blank))]
-fn blank() -> &'static [u8]
-    ensures { result.now ≡ blank }
-{
-    b" "
 }

@@ -1,4 +1,4 @@
-//! The lamps of named rooms, and the run that dims them: keys in, the screen out.
+//! The lamps of named rooms, as a program of lines alone.
 #![tactic(auto)]
 
 mod command;
@@ -6,9 +6,7 @@ pub mod grammar;
 mod lamps;
 pub mod laws;
 mod program;
-mod rooms;
 
 pub use command::command_of;
-pub use lamps::{Change, Command, Lamp, dark_lamps, obey};
+pub use lamps::{Change, Command, Lamp, RoomRules, dark_lamps, obey, put_reply};
 pub use program::Program;
-pub use rooms::RoomRules;

@@ -6,7 +6,7 @@ use std::test::Fail;
 
 const KEYS: &[u8] = b"S H 50\rS H 101\r";
 
-// A run that a fault cuts short, and what is to stand at its end.
+// A run that a fault cuts short, and what is to be at its end.
 #[derive(Clone, Copy)]
 struct Cut<'a> {
     failing_get: Option<u32>,

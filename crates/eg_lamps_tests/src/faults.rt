@@ -3,8 +3,8 @@
 // What must stand is the trace of the whole session, cut where a call fails. The screen fails in one put alone, and
 // would take what is put after it.
 use crate::given::run_program;
-use cm_faults::{Faults, Part, PartSink, Stop as Cut, stands_at};
 use cm_io::{Got, MemSource, NoMemory, Source};
+use cm_io_tests::{Faults, Part, PartSink, Stop as Cut, stands_at};
 use cm_run::Stop;
 use eg_lamps::Program;
 use std::alloc::{AllocError, Global};
@@ -48,7 +48,7 @@ show ~";
 
 const PARTS: [Part; 3] = [Part::Nothing, Part::First, Part::AllButLast];
 
-// What stands at the end of a session, and how many keys are left.
+// What is at the end of a session, and how many keys are left.
 #[derive(Drop)]
 struct Outcome {
     result: Result<(), Stop>,

@@ -113,7 +113,7 @@ fn acts_on_confirmed_lines_alone(rt: HostRuntime) -> Result<(), Fail> {
             b"@S S 5\r\n?Value not accepted\r\n@",
             [0, 0, 0, 0],
         ),
-        // What control-H brings back stands before the fault, and may be mended.
+        // What control-H brings back is before the fault, and may be mended.
         case(
             b"S ATTIC 5\r\x08H 5\r",
             b"@S ATTIC 5\r\n?Value not accepted\r\n@S H 5\r\n@",

@@ -1,4 +1,4 @@
--- What stands in a field of the configuration is read as what it was written for.
+-- What is in a field of the configuration is read as what it was written for.
 use Rattle.std.proofs.Common.{◌≡◌, ◌≤◌, ℕ, ◌==◌, Bool, true, false, not, if◌then◌else◌, List, [], ◌∷◌, ◌++◌, length, map, take, nat_le, refl, ap, arith, sym, ◌∙◌}
 use Rattle.std.specs.Char.{is_ascii_lowercase, to_ascii_uppercase}
 use Rattle.std.specs.Fmt.{decimal}

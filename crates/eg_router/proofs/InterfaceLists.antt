@@ -53,7 +53,7 @@ made_are name interfaces are may none =
     let new = new_may name interfaces may none in
     rw (inserted_there by_name (fresh name) interfaces) (inserted_are name interfaces are none new.0 new.1)
 
--- one that is there stands at its place
+-- one that is there is at its place
 pub there_within : (name : List ℕ) (interfaces : List Interface) → has name interfaces ≡ true
     → place name interfaces < length interfaces
 there_within name interfaces some = found_within by_name (fresh name) interfaces some

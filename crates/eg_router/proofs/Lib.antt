@@ -5,4 +5,3 @@ pub mod Fields
 pub mod InterfaceLists
 pub mod Listings
 pub mod Names
-pub mod Replies

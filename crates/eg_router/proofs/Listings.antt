@@ -1,12 +1,11 @@
 -- The configuration: its commands make the same interfaces again, and what is shown is those commands as they are typed.
-use Rattle.std.proofs.Common.{◌≡◌, ◌≤◌, ◌<◌, ℕ, Bool, true, false, ◌||◌, List, [], ◌∷◌, ◌++◌, length, insert, refl, ap, arith, sym, ◌∙◌, append_assoc, length-append, subst}
+use Rattle.std.proofs.Common.{◌≡◌, ◌≤◌, ◌<◌, ℕ, Bool, true, false, ◌||◌, List, [], ◌∷◌, ◌++◌, length, insert, map, refl, ap, arith, sym, ◌∙◌, append_assoc, length-append, subst}
 use Rattle.std.specs.Prelude.{Option, None, Some, nat_lt}
-use Rattle.std.specs.List.{flat_map, list_all}
+use Rattle.std.specs.List.{list_all}
 use Rattle.std.specs.Ordering.{is_lt}
 use Rattle.std.proofs.lemmas.Bool.{and_from, and_parts}
 use Rattle.std.proofs.lemmas.Bool.Decides.{nat_tests}
-use Rattle.std.proofs.lemmas.Grind.{flat_map-append}
-use Rattle.std.proofs.lemmas.List.{append-nil}
+use Rattle.std.proofs.lemmas.List.{append-nil, map-append}
 use Rattle.std.proofs.Math.Seq.{set-append_seam}
 use Rattle.cm_lists.proofs.Ascents.{all_above, is_sorted}
 use Rattle.cm_lists.proofs.Elements.{slice_get_at}
@@ -14,7 +13,7 @@ use Rattle.cm_lists.proofs.Orders.{lt_is_not_eq}
 use Rattle.cm_lists.proofs.Pieces.{cons_is_not_empty}
 use Rattle.cm_files.specs.Catalogue.{by_bytes}
 use Rattle.cm_files.specs.OneDirectory.{no_files}
-use Rattle.eg_router.specs.Configuration.{address_commands, address_line, commands_of, configuration, configuration_of, description_commands, description_line, line_of, listing, shutdown_commands, shutdown_line}
+use Rattle.eg_router.specs.Configuration.{address_commands, address_lines, commands_of, configuration, configuration_of, description_commands, description_lines, listing, shutdown_commands, shutdown_lines, typed}
 use Rattle.eg_router.specs.Interfaces.{AreInterfaces, by_name, changed, fresh, has, is_interface_name, place}
 use Rattle.eg_router.specs.Router.{configuring, obeyed, obeyed_all}
 use Rattle.eg_router.specs.declared.command.Command.{Command}
@@ -34,7 +33,7 @@ both : (first more : List Command) (at : Router) → obeyed_all (first ++ more) 
 both [] more at = refl
 both (command ∷ first) more at = both first more (obeyed command at)
 
--- all of these stand below a name
+-- all of these are below a name
 abbrev all_below : List ℕ → List Interface → Bool
 all_below name front = list_all (λ (it : Interface). is_lt (by_bytes it.name name)) front
 
@@ -67,7 +66,7 @@ put_last (it ∷ front) new = ap (λ (others : List Interface). it ∷ others) (
 abbrev inside : List Interface → Interface → Router
 inside front it = record { names = no_files; interfaces = front ++ it ∷ []; mode = modes.Interface (length front) }
 
--- a new one is entered after those that stand below it
+-- a new one is entered after those that are below it
 enters : (name : List ℕ) (front : List Interface) → all_below name front ≡ true → is_interface_name name ≡ true
     → length front < INTERFACE_LIMIT → obeyed (commands.Interface name) (configuring front) ≡ inside front (fresh name)
 enters name front below is room =
@@ -97,7 +96,7 @@ shutdown_set : (front : List Interface) (it : Interface) (is_down : Bool) → it
 shutdown_set front it true is = changes_it front it (changes.Shutdown true)
 shutdown_set front it false is = ap (λ (is_down : Bool). inside front (record it { is_down = is_down })) is
 
--- the commands of one interface make it after those that stand below it
+-- the commands of one interface make it after those that are below it
 made : (front : List Interface) (it : Interface) → all_below it.name front ≡ true → is_interface_name it.name ≡ true
     → length front < INTERFACE_LIMIT → obeyed_all (commands_of it) (configuring front) ≡ configuring (front ++ it ∷ [])
 made front it below is room =
@@ -115,7 +114,7 @@ made front it below is room =
     settings : List Command
     settings = address_commands it.address ++ (description_commands it.description ++ (shutdown_commands it.is_down ++ commands.Exit ∷ []))
 
--- those before an element of a sorted list stand below it
+-- those before an element of a sorted list are below it
 front_below : (front : List Interface) (it : Interface) (rest : List Interface) → is_sorted by_name (front ++ it ∷ rest) ≡ true
     → all_below it.name front ≡ true
 front_below [] it rest sorted = refl
@@ -151,43 +150,40 @@ pub makes_the_same : (interfaces : List Interface) → AreInterfaces interfaces
 makes_the_same interfaces are =
     all_made [] interfaces are.few are.names (sorted_ascends by_name by_name_total interfaces are.ascend)
 
--- the lines of several commands
-abbrev lines : List Command → List ℕ
-lines all = flat_map line_of all
-
-address_typed : (address : Option Address) → address_line address ≡ lines (address_commands address)
-unfolding address_line
+-- the lines of several commands, as they are typed
+address_typed : (address : Option Address) → address_lines address ≡ map typed (address_commands address)
+unfolding address_lines
 address_typed None = refl
-address_typed (Some address) = sym (append-nil _)
+address_typed (Some address) = refl
 
-description_typed : (text : List ℕ) → description_line text ≡ lines (description_commands text)
-unfolding description_line
+description_typed : (text : List ℕ) → description_lines text ≡ map typed (description_commands text)
+unfolding description_lines
 description_typed [] = refl
-description_typed (byte ∷ more) = rw (cons_is_not_empty byte more) (sym (append-nil _))
+description_typed (byte ∷ more) = rw (cons_is_not_empty byte more) refl
 
-shutdown_typed : (is_down : Bool) → shutdown_line is_down ≡ lines (shutdown_commands is_down)
-unfolding shutdown_line
-shutdown_typed true = sym (append-nil _)
+shutdown_typed : (is_down : Bool) → shutdown_lines is_down ≡ map typed (shutdown_commands is_down)
+unfolding shutdown_lines
+shutdown_typed true = refl
 shutdown_typed false = refl
 
-typed_of : (it : Interface) → configuration_of it ≡ lines (commands_of it)
+typed_of : (it : Interface) → configuration_of it ≡ map typed (commands_of it)
 unfolding configuration_of
 typed_of it =
     let leave : List Command = commands.Exit ∷ [] in
     let shut : List Command = shutdown_commands it.is_down ++ leave in
     let described : List Command = description_commands it.description ++ shut in
-    let first : lines (address_commands it.address ++ described) ≡ address_line it.address ++ lines described =
-    flat_map-append line_of (address_commands it.address) described ∙ ap (λ (text : List ℕ). text ++ lines described) (sym (address_typed it.address)) in
-    let second : lines described ≡ description_line it.description ++ lines shut =
-    flat_map-append line_of (description_commands it.description) shut ∙ ap (λ (text : List ℕ). text ++ lines shut) (sym (description_typed it.description)) in
-    let third : lines shut ≡ shutdown_line it.is_down ++ lines leave =
-    flat_map-append line_of (shutdown_commands it.is_down) leave ∙ ap (λ (text : List ℕ). text ++ lines leave) (sym (shutdown_typed it.is_down)) in
-    rw (first, second, third) (simp (append_assoc, append-nil))
+    let first : map typed (address_commands it.address ++ described) ≡ address_lines it.address ++ map typed described =
+    map-append typed (address_commands it.address) described ∙ ap (λ (lines : List (List ℕ)). lines ++ map typed described) (sym (address_typed it.address)) in
+    let second : map typed described ≡ description_lines it.description ++ map typed shut =
+    map-append typed (description_commands it.description) shut ∙ ap (λ (lines : List (List ℕ)). lines ++ map typed shut) (sym (description_typed it.description)) in
+    let third : map typed shut ≡ shutdown_lines it.is_down ++ map typed leave =
+    map-append typed (shutdown_commands it.is_down) leave ∙ ap (λ (lines : List (List ℕ)). lines ++ map typed leave) (sym (shutdown_typed it.is_down)) in
+    rw (first, second, third) refl
 
-pub is_its_commands : (interfaces : List Interface) → configuration interfaces ≡ lines (listing interfaces)
+pub is_its_commands : (interfaces : List Interface) → configuration interfaces ≡ map typed (listing interfaces)
 unfolding configuration
 is_its_commands [] = refl
 is_its_commands (it ∷ more) =
-    ap (λ (text : List ℕ). text ++ configuration more) (typed_of it)
-    ∙ ap (λ (text : List ℕ). lines (commands_of it) ++ text) (is_its_commands more)
-    ∙ sym (flat_map-append line_of (commands_of it) (listing more))
+    ap (λ (lines : List (List ℕ)). lines ++ configuration more) (typed_of it)
+    ∙ ap (λ (lines : List (List ℕ)). map typed (commands_of it) ++ lines) (is_its_commands more)
+    ∙ sym (map-append typed (commands_of it) (listing more))

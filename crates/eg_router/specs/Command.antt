@@ -1,7 +1,7 @@
 -- What a confirmed line commands.
 use Rattle.std.specs.Prelude.{ℕ, ◌==◌, ◌||◌, true, false, List, [], take, map, if◌then◌else◌, Option, None, Some}
 use Rattle.std.specs.Char.{to_ascii_uppercase}
-use Rattle.std.specs.Option.{option_map, option_map_or}
+use Rattle.std.specs.Option.{option_map_or}
 use Rattle.cm_text.specs.declared.name.TheConstants.{NAME_LIMIT}
 use Rattle.cm_fields.specs.Quoted.{unquoted}
 use Rattle.cm_fields.specs.declared.value.Value.{Value}
@@ -10,7 +10,7 @@ use Rattle.cm_blocks.specs.declared.function.Role.{Role}
 use Rattle.cm_blocks.specs.declared.function.Role.TheVariants as roles
 use Rattle.cm_blocks.specs.FieldView.{FieldView}
 use Rattle.cm_state.specs.SessionState.{SessionState, text_of}
-use Rattle.cm_state.specs.Roles.{field_of}
+use Rattle.cm_state.specs.Roles.{field_of, value_of}
 use Rattle.cm_state.specs.FieldText.{said}
 use Rattle.eg_router.specs.Graph.{router_graph}
 use Rattle.eg_router.specs.declared.command.Command.{Command}
@@ -20,10 +20,6 @@ use Rattle.eg_router.specs.declared.grammar.TheConstants.{ADDRESS, CONFIGURE, DE
 use Rattle.eg_router.specs.declared.interface.Address.{Address}
 use Rattle.eg_router.specs.declared.interface.Change.TheVariants as changes
 use Rattle.eg_router.specs.declared.router.Mode.TheVariants as modes
-
--- what the first field of a role stands for
-abbrev pub value_of : Role → List FieldView → Option Value
-value_of role fields = option_map (λ (field : FieldView). field.value) (field_of role fields)
 
 -- the code of a keyword, or one that no keyword has
 abbrev pub code_by : Option Value → ℕ

@@ -1,8 +1,7 @@
 -- What the router shows, and the commands that its configuration is made of.
-use Rattle.std.specs.Prelude.{ℕ, ◌==◌, Bool, true, if◌then◌else◌, List, [], ◌∷◌, ◌++◌, length, codes, Option, None, Some}
+use Rattle.std.specs.Prelude.{ℕ, ◌==◌, Bool, true, if◌then◌else◌, List, [], ◌∷◌, ◌++◌, length, codes, map, Option, None, Some}
 use Rattle.std.specs.Fmt.{decimal}
 use Rattle.std.specs.List.{flat_map}
-use Rattle.cm_text.specs.ScreenBytes.{end_of_line}
 use Rattle.eg_router.specs.declared.command.Command.{Command}
 use Rattle.eg_router.specs.declared.command.Command.TheVariants as commands
 use Rattle.eg_router.specs.declared.command.Shown.TheVariants as shown
@@ -45,25 +44,25 @@ unfoldable pub exit_word : List ℕ
 exit_word = codes "exit"
 
 -- the lines of each setting; what is as in a new interface has none
-unfoldable pub address_line : Option Address → List ℕ
-address_line None = []
-address_line (Some address) = address_word ++ dotted address ++ end_of_line
+unfoldable pub address_lines : Option Address → List (List ℕ)
+address_lines None = []
+address_lines (Some address) = (address_word ++ dotted address) ∷ []
 
-unfoldable pub description_line : List ℕ → List ℕ
-description_line text = if length text == 0 then [] else description_word ++ flat_map quoted_byte text ++ quote
-    ++ end_of_line
+unfoldable pub description_lines : List ℕ → List (List ℕ)
+description_lines text =
+    if length text == 0 then [] else (description_word ++ flat_map quoted_byte text ++ quote) ∷ []
 
-unfoldable pub shutdown_line : Bool → List ℕ
-shutdown_line is_down = if is_down then shutdown_word ++ end_of_line else []
+unfoldable pub shutdown_lines : Bool → List (List ℕ)
+shutdown_lines is_down = if is_down then shutdown_word ∷ [] else []
 
 -- the lines of an interface
-unfoldable pub configuration_of : Interface → List ℕ
+unfoldable pub configuration_of : Interface → List (List ℕ)
 configuration_of it =
-    interface_word ++ it.name ++ end_of_line ++ address_line it.address ++ description_line it.description
-    ++ shutdown_line it.is_down ++ exit_word ++ end_of_line
+    (interface_word ++ it.name)
+    ∷ (address_lines it.address ++ (description_lines it.description ++ (shutdown_lines it.is_down ++ exit_word ∷ [])))
 
 -- the configuration, as it is shown
-unfoldable pub configuration : List Interface → List ℕ
+unfoldable pub configuration : List Interface → List (List ℕ)
 configuration interfaces = flat_map configuration_of interfaces
 
 -- the commands that make each setting
@@ -97,10 +96,6 @@ typed (commands.Set (changes.Shutdown true)) = shutdown_word
 typed commands.Exit = exit_word
 typed command = []
 
--- on a line of its own
-abbrev pub line_of : Command → List ℕ
-line_of command = typed command ++ end_of_line
-
 -- the line of an interface in SHOW INTERFACES: `ETH0 up 10.0.0.1 by the door`
 unfoldable pub up_word : List ℕ
 up_word = codes " up"
@@ -115,17 +110,14 @@ address_text (Some address) = blank ++ dotted address
 unfoldable pub interface_line : Interface → List ℕ
 interface_line it =
     it.name ++ (if it.is_down then down_word else up_word) ++ address_text it.address
-    ++ (if length it.description == 0 then [] else blank) ++ it.description ++ end_of_line
-
-unfoldable pub interface_lines : List Interface → List ℕ
-interface_lines interfaces = flat_map interface_line interfaces
+    ++ (if length it.description == 0 then [] else blank) ++ it.description
 
 unfoldable pub version : List ℕ
 version = codes "The router of Lughvero"
 
--- what a command shows
-abbrev pub reply : Command → List Interface → List ℕ
-reply (commands.Show shown.Interfaces) interfaces = interface_lines interfaces
+-- the lines that a command shows
+abbrev pub reply : Command → List Interface → List (List ℕ)
+reply (commands.Show shown.Interfaces) interfaces = map interface_line interfaces
 reply (commands.Show shown.Configuration) interfaces = configuration interfaces
-reply (commands.Show shown.Version) interfaces = version ++ end_of_line
+reply (commands.Show shown.Version) interfaces = version ∷ []
 reply command interfaces = []

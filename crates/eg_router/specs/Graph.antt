@@ -1,18 +1,15 @@
 -- The grammar of the router: nodes, each a chain of blocks, and the keyword tables that they name.
 use Rattle.std.specs.Prelude.{ℕ, List, [], ◌∷◌, ◌++◌, codes, map}
-use Rattle.cm_blocks.specs.declared.function.Function.TheVariants.{Confirm, Hook, Key, Quoted, Token, Word}
+use Rattle.cm_blocks.specs.declared.function.Function.TheVariants.{Hook, Key, Quoted, Token, Word}
 use Rattle.cm_blocks.specs.declared.function.Role.{Role}
 use Rattle.cm_blocks.specs.declared.function.Role.TheVariants as roles
 use Rattle.cm_blocks.specs.declared.node.Block.{Block}
 use Rattle.cm_blocks.specs.declared.node.Node.{Node}
 use Rattle.cm_blocks.specs.Grammar.{Graph}
-use Rattle.cm_blocks.specs.Words.{block, node}
+use Rattle.cm_blocks.specs.Words.{block, confirm, node, only}
 use Rattle.eg_router.specs.Tables.{router_tables}
 use Rattle.eg_router.specs.declared.grammar.TheConstants.{LINE_END}
 use Rattle.eg_router.specs.declared.rules.TheConstants.{NAME, NEW_NAME, OCTET}
-
-abbrev pub confirm : Block
-confirm = block Confirm roles.None LINE_END
 
 -- a keyword of this table
 abbrev pub keyword : ℕ → Role → Block
@@ -27,7 +24,7 @@ point next = block (Token (codes ".")) roles.None next
 
 -- a line of a mode begins with nothing, or with a keyword of its table
 abbrev pub lines : ℕ → Node
-lines table = node (confirm ∷ keyword table roles.Verb ∷ [])
+lines table = node (confirm LINE_END ∷ keyword table roles.Verb ∷ [])
 
 -- nodes 0 to 4: the lines of each mode
 unfoldable pub first_nodes : List Node
@@ -37,7 +34,7 @@ first_nodes = lines 0 ∷ lines 1 ∷ lines 2 ∷ lines 3 ∷ lines 4 ∷ []
 -- the address; the description
 unfoldable pub blocks : List Block
 blocks =
-    confirm
+    confirm LINE_END
     ∷ keyword 5 roles.None
     ∷ keyword 6 roles.What
     ∷ keyword 7 roles.What
@@ -50,7 +47,7 @@ blocks =
     ∷ []
 
 unfoldable pub router_nodes : List Node
-router_nodes = first_nodes ++ map (λ (it : Block). node (it ∷ [])) blocks
+router_nodes = first_nodes ++ map only blocks
 
 unfoldable pub router_graph : Graph
 router_graph = record { nodes = router_nodes; tables = router_tables }

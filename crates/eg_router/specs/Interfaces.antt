@@ -44,7 +44,7 @@ pub record AreInterfaces (interfaces : List Interface) : Type 0 where
   pub names : list_all (λ (it : Interface). is_interface_name it.name) interfaces ≡ true
   pub ascend : ascends by_name interfaces ≡ true
 
--- how many stand below a name
+-- how many are below a name
 abbrev pub place : List ℕ → List Interface → ℕ
 place name interfaces = prefix_len (λ (it : Interface). is_lt (by_bytes it.name name)) interfaces
 

@@ -3,6 +3,7 @@ pub mod Configuration
 pub mod Graph
 pub mod Interfaces
 pub mod Program
+pub mod PromptLaws
 pub mod Router
 pub mod Rules
 pub mod Tables

@@ -3,7 +3,7 @@ ghost use Rattle.std.specs.Prelude.{◌≡◌, ◌≤◌, length, map};
 ghost use Rattle.std.specs.Char.{to_ascii_uppercase};
 ghost use Rattle.std.specs.Str.{IsAscii};
 ghost use Rattle.cm_text.specs.declared.name.TheConstants.{NAME_LIMIT};
-ghost use Rattle.eg_router.specs.Command.{address_of, code_by, command_of, description_of, name_of, number_by, said_by, shown_by, taken_back, value_of};
+ghost use Rattle.eg_router.specs.Command.{address_of, code_by, command_of, description_of, name_of, number_by, said_by, shown_by, taken_back};
 ghost use Rattle.eg_router.specs.Graph.{router_graph};
 
 use crate::grammar::{
@@ -53,8 +53,8 @@ pub fn command_of(session: &Session, grammar: &Grammar) -> Command
     requires { grammar.now ≡ router_graph }
     ensures { result ≡ command_of session.now }
 {
-    let verb = code_by(value_of(session, Role::Verb));
-    let what = code_by(value_of(session, Role::What));
+    let verb = code_by(session.value_of(Role::Verb));
+    let what = code_by(session.value_of(Role::What));
     match verb {
         ENABLE | END => Command::Go(Mode::Privileged),
         CONFIGURE => Command::Go(Mode::Configuration),
@@ -96,16 +96,6 @@ fn taken_back(what: u16, session: &Session, grammar: &Grammar) -> Command
     }
 }
 
-// What the first field of a role stands for.
-fn value_of(session: &Session, role: Role) -> Option<Value>
-    ensures { result ≡ value_of role session.now.fields }
-{
-    match session.field_of(role) {
-        Some(field) => Some(*field.value()),
-        None => None,
-    }
-}
-
 // The code of a keyword, or one that no keyword has.
 fn code_by(value: Option<Value>) -> u16
     ensures { result ≡ code_by value }
@@ -131,10 +121,10 @@ fn address_of(session: &Session) -> Address
     ensures { result ≡ address_of session.now.fields }
 {
     Address {
-        first: number_by(value_of(session, Role::Own(1))),
-        second: number_by(value_of(session, Role::Own(2))),
-        third: number_by(value_of(session, Role::Own(3))),
-        fourth: number_by(value_of(session, Role::Own(4))),
+        first: number_by(session.value_of(Role::Own(1))),
+        second: number_by(session.value_of(Role::Own(2))),
+        third: number_by(session.value_of(Role::Own(3))),
+        fourth: number_by(session.value_of(Role::Own(4))),
     }
 }
 

@@ -1,22 +1,19 @@
 // What the router shows.
-ghost use Rattle.std.specs.Prelude.{◌≡◌};
+ghost use Rattle.std.specs.Prelude.{◌≡◌, ◌++◌, ◌∷◌, [], map};
 ghost use Rattle.std.specs.List.{flat_map};
 ghost use Rattle.cm_text.specs.ScreenBytes.{end_of_line};
+ghost use Rattle.cm_io.specs.Pieces.{shown_lines};
 ghost use Rattle.cm_io.specs.Writer.{Writes};
-ghost use Rattle.eg_router.specs.Configuration.{address_line, address_text, address_word, blank, configuration, configuration_of, description_line, description_word, dotted, interface_line, interface_lines, interface_word, quoted_byte, reply, shutdown_line};
+ghost use Rattle.eg_router.specs.Configuration.{address_lines, address_text, address_word, blank, configuration, configuration_of, description_lines, description_word, dotted, exit_word, interface_line, interface_word, quoted_byte, reply, shutdown_lines};
 
 use crate::{Address, Command, Interface, Interfaces, Shown};
 use cm_io::{Sink, Writer};
-use cm_text::end_of_line;
+use cm_text::{Name, end_of_line};
 
-// Shows the reply of a command.
-#[tactic(auto, using(cm_io::proofs::Texts::writes_none), unfolding(crate::specs::Configuration::version))]
-pub(crate) fn put_reply<S: Sink>(
-    command: &Command,
-    interfaces: &Interfaces,
-    out: &mut Writer<'_, S>,
-)
-    ensures { Writes S.Sink out.old out.new (reply command.now interfaces.now) }
+/// Writes the lines that a command shows, which SHOW has.
+#[tactic(auto, using(cm_io::proofs::Texts::lines), unfolding(crate::specs::Configuration::version))]
+pub fn put_reply<S: Sink>(command: &Command, interfaces: &Interfaces, out: &mut Writer<'_, S>)
+    ensures { Writes S.Sink out.old out.new (shown_lines (reply command.now interfaces.now)) }
 {
     match command {
         Command::Show(Shown::Interfaces) => put_interfaces(interfaces.as_slice(), out),
@@ -26,34 +23,39 @@ pub(crate) fn put_reply<S: Sink>(
     }
 }
 
-// Shows the configuration.
-#[tactic(auto, using(cm_io::proofs::Texts::each), unfolding(crate::specs::Configuration::configuration))]
+// Writes the configuration.
+#[tactic(auto, using(cm_io::proofs::Texts::each_lines), unfolding(crate::specs::Configuration::configuration))]
 fn put_configuration<S: Sink>(interfaces: &[Interface], out: &mut Writer<'_, S>)
-    ensures { Writes S.Sink out.old out.new (configuration interfaces.now) }
+    ensures { Writes S.Sink out.old out.new (shown_lines (configuration interfaces.now)) }
 {
     for it in interfaces {
         put_interface(it, out);
     }
 }
 
-// Shows the lines of an interface.
-#[tactic(auto, using(cm_io::proofs::Texts::texts), unfolding(crate::specs::Configuration::configuration_of, crate::specs::Configuration::exit_word))]
+// Writes the lines of an interface.
 fn put_interface<S: Sink>(it: &Interface, out: &mut Writer<'_, S>)
-    ensures { Writes S.Sink out.old out.new (configuration_of it.now) }
+    ensures { Writes S.Sink out.old out.new (shown_lines (configuration_of it.now)) }
+{
+    put_head(&it.name, out);
+    put_address(it.address, out);
+    put_description(&it.description, out);
+    put_shutdown(it.is_down, out);
+    put_exit(out);
+}
+
+#[tactic(auto, using(cm_io::proofs::Texts::texts))]
+fn put_head<S: Sink>(name: &Name, out: &mut Writer<'_, S>)
+    ensures { Writes S.Sink out.old out.new ((interface_word ++ name.now) ++ end_of_line) }
 {
     out.put(interface_word());
-    out.put(it.name.as_bytes());
-    out.put(end_of_line());
-    put_address(it.address, out);
-    put_description(it.description.as_bytes(), out);
-    put_shutdown(it.is_down, out);
-    out.put(b"exit");
+    out.put(name.as_bytes());
     out.put(end_of_line());
 }
 
-#[tactic(auto, using(cm_io::proofs::Texts::texts, cm_io::proofs::Texts::each), unfolding(crate::specs::Configuration::address_line))]
+#[tactic(auto, using(cm_io::proofs::Texts::texts, cm_io::proofs::Texts::lines), unfolding(crate::specs::Configuration::address_lines))]
 fn put_address<S: Sink>(address: Option<Address>, out: &mut Writer<'_, S>)
-    ensures { Writes S.Sink out.old out.new (address_line address) }
+    ensures { Writes S.Sink out.old out.new (shown_lines (address_lines address)) }
 {
     if let Some(address) = address {
         out.put(address_word());
@@ -62,11 +64,12 @@ fn put_address<S: Sink>(address: Option<Address>, out: &mut Writer<'_, S>)
     }
 }
 
-// Shows a description in quotes, a quote in it twice.
-#[tactic(auto, using(cm_io::proofs::Texts::texts, cm_io::proofs::Texts::each), unfolding(crate::specs::Configuration::description_line, crate::specs::Configuration::quote))]
-fn put_description<S: Sink>(text: &[u8], out: &mut Writer<'_, S>)
-    ensures { Writes S.Sink out.old out.new (description_line text.now) }
+// Writes a description in quotes, a quote in it twice.
+#[tactic(auto, using(cm_io::proofs::Texts::texts, cm_io::proofs::Texts::lines), unfolding(crate::specs::Configuration::quote, crate::specs::Configuration::description_lines))]
+fn put_description<S: Sink>(text: &Name, out: &mut Writer<'_, S>)
+    ensures { Writes S.Sink out.old out.new (shown_lines (description_lines text.now)) }
 {
+    let text = text.as_bytes();
     if !text.is_empty() {
         out.put(description_word());
         put_quoted_bytes(text, out);
@@ -75,13 +78,20 @@ fn put_description<S: Sink>(text: &[u8], out: &mut Writer<'_, S>)
     }
 }
 
-#[tactic(auto, using(cm_io::proofs::Texts::texts, cm_io::proofs::Texts::each), unfolding(crate::specs::Configuration::shutdown_line, crate::specs::Configuration::shutdown_word))]
+#[tactic(auto, using(cm_io::proofs::Texts::lines), unfolding(crate::specs::Configuration::shutdown_word, crate::specs::Configuration::shutdown_lines))]
 fn put_shutdown<S: Sink>(is_down: bool, out: &mut Writer<'_, S>)
-    ensures { Writes S.Sink out.old out.new (shutdown_line is_down) }
+    ensures { Writes S.Sink out.old out.new (shown_lines (shutdown_lines is_down)) }
 {
     if is_down {
         out.put_line(b" shutdown");
     }
+}
+
+#[tactic(auto, using(cm_io::proofs::Texts::writes_line), unfolding(crate::specs::Configuration::exit_word))]
+fn put_exit<S: Sink>(out: &mut Writer<'_, S>)
+    ensures { Writes S.Sink out.old out.new (shown_lines (exit_word ∷ [])) }
+{
+    out.put_line(b"exit");
 }
 
 #[tactic(auto, using(cm_io::proofs::Texts::each))]
@@ -104,7 +114,7 @@ fn put_quoted_byte<S: Sink>(byte: u8, out: &mut Writer<'_, S>)
     }
 }
 
-// Shows an address.
+// Writes an address.
 #[tactic(auto, using(cm_io::proofs::Texts::texts), unfolding(crate::specs::Configuration::dotted, crate::specs::Configuration::point))]
 fn put_dotted<S: Sink>(address: Address, out: &mut Writer<'_, S>)
     ensures { Writes S.Sink out.old out.new (dotted address) }
@@ -118,20 +128,20 @@ fn put_dotted<S: Sink>(address: Address, out: &mut Writer<'_, S>)
     out.put_decimal(address.fourth);
 }
 
-// Shows a line for each interface.
-#[tactic(auto, using(cm_io::proofs::Texts::each), unfolding(crate::specs::Configuration::interface_lines))]
+// Writes a line for each interface.
+#[tactic(auto, using(cm_io::proofs::Texts::each_line))]
 fn put_interfaces<S: Sink>(interfaces: &[Interface], out: &mut Writer<'_, S>)
-    ensures { Writes S.Sink out.old out.new (interface_lines interfaces.now) }
+    ensures { Writes S.Sink out.old out.new (shown_lines (map interface_line interfaces.now)) }
 {
     for it in interfaces {
         put_interface_line(it, out);
     }
 }
 
-// Shows the line of an interface: `ETH0 up 10.0.0.1 by the door`.
+// Writes the line of an interface: `ETH0 up 10.0.0.1 by the door`.
 #[tactic(auto, using(cm_io::proofs::Texts::texts), unfolding(crate::specs::Configuration::interface_line, crate::specs::Configuration::up_word, crate::specs::Configuration::down_word))]
 fn put_interface_line<S: Sink>(it: &Interface, out: &mut Writer<'_, S>)
-    ensures { Writes S.Sink out.old out.new (interface_line it.now) }
+    ensures { Writes S.Sink out.old out.new (interface_line it.now ++ end_of_line) }
 {
     let description = it.description.as_bytes();
     out.put(it.name.as_bytes());

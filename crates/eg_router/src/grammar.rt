@@ -1,10 +1,10 @@
 // The grammar of the router.
 ghost use Rattle.std.specs.Prelude.{◌≡◌, IfOk};
-ghost use Rattle.eg_router.specs.Graph.{blocks, confirm, keyword, lines, octet, point, router_graph, router_nodes};
+ghost use Rattle.eg_router.specs.Graph.{blocks, keyword, lines, octet, point, router_graph, router_nodes};
 
 use crate::rules::{NAME, NEW_NAME, OCTET};
 use crate::tables::tables;
-use cm_blocks::{Block, Function, Grammar, Node, Role};
+use cm_blocks::{Block, Function, Grammar, Node, Role, push_nodes};
 use cm_io::NoMemory;
 use cm_text::Name;
 use std::alloc::Global;
@@ -70,9 +70,7 @@ fn nodes(alloc: Global) -> Result<Vec<Node>, NoMemory>
         lines(3, alloc)?,
         lines(4, alloc)?,
     ]?;
-    for block in blocks(alloc)? {
-        nodes.push(Node::new(vec![in alloc; block]?))?;
-    }
+    push_nodes(&mut nodes, blocks(alloc)?, alloc)?;
     Ok(nodes)
 }
 
@@ -80,7 +78,7 @@ fn nodes(alloc: Global) -> Result<Vec<Node>, NoMemory>
 fn lines(table: u16, alloc: Global) -> Result<Node, NoMemory>
     ensures { IfOk result (λ node. node ≡ lines table) }
 {
-    Ok(Node::new(vec![in alloc; confirm(), keyword(table, Role::Verb)]?))
+    Ok(Node::new(vec![in alloc; Block::confirm(LINE_END), keyword(table, Role::Verb)]?))
 }
 
 // Nodes 5 to 20, of one block each: the end of a line; CONFIGURE; SHOW; NO and what it takes back; INTERFACE; ROUTER;
@@ -90,7 +88,7 @@ fn blocks(alloc: Global) -> Result<Vec<Block>, NoMemory>
     ensures { IfOk result (λ items. items.items ≡ blocks) }
 {
     Ok(vec![in alloc;
-        confirm(),
+        Block::confirm(LINE_END),
         keyword(5, Role::None),
         keyword(6, Role::What),
         keyword(7, Role::What),
@@ -107,12 +105,6 @@ fn blocks(alloc: Global) -> Result<Vec<Block>, NoMemory>
         octet(4, LINE_END),
         Block::new(Function::Quoted, Role::Value, LINE_END),
     ]?)
-}
-
-fn confirm() -> Block
-    ensures { result ≡ confirm }
-{
-    Block::new(Function::Confirm, Role::None, LINE_END)
 }
 
 // A keyword of this table.

@@ -98,7 +98,7 @@ impl Interfaces {
     }
 }
 
-// How many interfaces stand below a name.
+// How many interfaces are below a name.
 fn place(name: &Name, interfaces: &[Interface]) -> usize
     ensures value { result ≡ place name.now interfaces.now }
     ensures within { result ≤ length interfaces.now }
@@ -118,7 +118,7 @@ fn has(name: &Name, interfaces: &[Interface]) -> bool
         .any(|it| it.name.cmp(name) == Ordering::Equal)
 }
 
-// Whether a byte may stand in the name of an interface.
+// Whether a byte may be in the name of an interface.
 fn is_name_byte(byte: u8) -> bool
     ensures { result ≡ is_name_byte byte }
 {

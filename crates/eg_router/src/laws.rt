@@ -1,17 +1,14 @@
 // Laws of the router.
-ghost use Rattle.std.specs.Prelude.{◌≡◌, ◌≤◌, ℕ, List, [], true};
+ghost use Rattle.std.specs.Prelude.{◌≡◌, ◌≤◌, ℕ, List, [], map, true};
 ghost use Rattle.std.specs.Fmt.{decimal};
 ghost use Rattle.std.specs.List.{flat_map};
 ghost use Rattle.cm_fields.specs.Quoted.{unquoted};
 ghost use Rattle.cm_hooks.specs.Meanings.{IsYes};
 ghost use Rattle.cm_hooks.specs.declared.answer.Answer.TheVariants.{Yes};
-ghost use Rattle.cm_run.specs.Keeping.{IsLineKeeping};
-ghost use Rattle.cm_run.specs.LineSemantics.{lines_only};
 ghost use Rattle.eg_router.specs.Command.{upper};
-ghost use Rattle.eg_router.specs.Configuration.{configuration, line_of, listing, quoted_byte};
+ghost use Rattle.eg_router.specs.Configuration.{configuration, listing, quoted_byte, typed};
 ghost use Rattle.eg_router.specs.Interfaces.{AreInterfaces, is_interface_name, may_enter};
 ghost use Rattle.eg_router.specs.Rules.{new_name_verdict, octet_verdict};
-ghost use Rattle.eg_router.specs.Program.{router_semantics};
 ghost use Rattle.eg_router.specs.Router.{configuring, obeyed_all};
 ghost use Rattle.eg_router.specs.declared.grammar.TheConstants.{ADDRESS, CONFIGURATION_LINES, CONFIGURE, DESCRIPTION, ENABLE, END, EXIT, INTERFACE, INTERFACE_LINES, LINE_END, NO, PRIVILEGED_LINES, PROTOCOL_LINES, ROUTER, RUNNING, SHOW, SHUTDOWN, USER_LINES, VERSION};
 ghost use Rattle.eg_router.specs.declared.interface.Interface.{Interface};
@@ -25,23 +22,17 @@ pub fn the_configuration_makes_the_same_router()
         → obeyed_all (listing interfaces) (configuring []) ≡ configuring interfaces }
 {}
 
-/// What SHOW RUNNING-CONFIG shows is those commands as they are typed, each on a line of its own.
+/// What SHOW RUNNING-CONFIG shows is those commands as they are typed, a line each.
 pub fn the_configuration_is_its_commands()
-    ensures { (interfaces : List Interface) → configuration interfaces ≡ flat_map line_of (listing interfaces) }
+    ensures { (interfaces : List Interface) → configuration interfaces ≡ map typed (listing interfaces) }
 {}
 
-/// What stands in a field of those lines is read as what it was written for: a number of an address, a description, and
+/// What is in a field of those lines is read as what it was written for: a number of an address, a description, and
 /// the name of an interface.
 pub fn the_fields_are_what_was_written()
     ensures number { (number : ℕ) → number ≤ OCTET_LIMIT → octet_verdict (decimal number) ≡ Yes number }
     ensures text { (text : List ℕ) → unquoted (flat_map quoted_byte text) ≡ text }
     ensures name { (name : List ℕ) → is_interface_name name ≡ true → upper name ≡ name }
-{}
-
-/// Each reply of the router is nothing, or ends with a line feed, and its prompts are printed bytes: so the screen
-/// shows prompt and line between keys.
-pub fn the_router_keeps_its_lines()
-    ensures { IsLineKeeping (lines_only router_semantics) }
 {}
 
 /// A name that INTERFACE takes in the line may be entered, so that the act refuses none.

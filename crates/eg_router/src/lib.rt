@@ -14,6 +14,7 @@ mod rules;
 mod tables;
 
 pub use command::{Command, Shown, command_of};
+pub use configuration::put_reply;
 pub use interface::{Address, Change, Interface};
 pub use interfaces::{INTERFACE_LIMIT, Interfaces};
 pub use router::{Mode, Router};

@@ -1,14 +1,9 @@
 // The router in its course, and what a command makes of it.
-ghost use Rattle.std.specs.Prelude.{◌≡◌, ◌≤◌};
-ghost use Rattle.cm_io.specs.Fault.{PutCause};
-ghost use Rattle.cm_io.specs.Contents.{Adds};
-ghost use Rattle.eg_router.specs.Configuration.{reply};
+ghost use Rattle.std.specs.Prelude.{◌≡◌};
 ghost use Rattle.eg_router.specs.Router.{above, entered, obeyed, router_start, with_setting};
 
-use crate::configuration::put_reply;
 use crate::{Change, Command, Interfaces};
 use cm_files::OneDirectory;
-use cm_io::{Put, Sink, Writer};
 use cm_text::Name;
 
 /// Where the router is: what its next line may be.
@@ -51,22 +46,9 @@ impl Router {
         }
     }
 
-    /// Does what a command says, and shows its reply. It acts also where the screen fails.
-    pub fn obey_command<S: Sink>(&mut self, command: Command, screen: &mut S) -> Put
+    /// Does what a command says.
+    pub fn obey_command(&mut self, command: Command)
         // [router-setting]
-        ensures state { self.new ≡ obeyed command self.old }
-        ensures reply { Adds (S.contents screen.old) (S.contents screen.new)
-            (reply command self.old.interfaces) result }
-        ensures later { S.faults screen.old ≤ S.faults screen.new }
-        ensures cause { PutCause (S.faults screen.old) (S.faults screen.new) result }
-    {
-        let mut out = Writer::new(screen);
-        put_reply(&command, &self.interfaces, &mut out);
-        self.change(command);
-        out.outcome()
-    }
-
-    fn change(&mut self, command: Command)
         ensures { self.new ≡ obeyed command self.old }
     {
         match command {

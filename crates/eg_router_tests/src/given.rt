@@ -1,16 +1,16 @@
-// What the runs of the tests are given, and what is to stand at their ends.
+// What the runs of the tests are given, and what is to be at their ends.
 ghost use Rattle.std.specs.Prelude.{◌≡◌, ◌<◌};
 
 use cm_blocks::Steps;
 use cm_io::{Got, MemSink, MemSource, NoMemory, Sink, Source};
-use cm_run::Stop;
+use cm_run::{Stop, run_line_program};
 use eg_router::Router;
 use eg_router::grammar::grammar;
 use std::marker::Brand;
 use std::sync::ledger::{Blank, Ledger};
 use std::test::Fail;
 
-// What stands at the end of a run.
+// What is at the end of a run.
 #[derive(Drop)]
 pub struct Outcome {
     pub result: Result<(), Stop>,
@@ -85,5 +85,5 @@ pub(crate) fn run_program<K: Source, S: Sink, L: Ledger>(
         return Err(Stop::Memory);
     };
     let mut steps: Steps<L> = Steps::new(rt, blank);
-    router.run(&grammar, keys, screen, &mut steps)
+    run_line_program(router, &grammar, keys, screen, &mut steps)
 }

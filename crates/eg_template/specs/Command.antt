@@ -1,20 +1,13 @@
 -- What a confirmed line commands.
-use Rattle.std.specs.Prelude.{◌==◌, List, if◌then◌else◌, Option, Some}
-use Rattle.std.specs.Option.{option_map}
+use Rattle.std.specs.Prelude.{◌==◌, if◌then◌else◌, Option, Some}
 use Rattle.cm_fields.specs.declared.value.Value.{Value}
 use Rattle.cm_fields.specs.declared.value.Value.TheVariants as values
-use Rattle.cm_blocks.specs.declared.function.Role.{Role}
 use Rattle.cm_blocks.specs.declared.function.Role.TheVariants as roles
-use Rattle.cm_blocks.specs.FieldView.{FieldView}
 use Rattle.cm_state.specs.SessionState.{SessionState}
-use Rattle.cm_state.specs.Roles.{field_of}
+use Rattle.cm_state.specs.Roles.{value_of}
 use Rattle.eg_template.specs.declared.act.Command.{Command}
 use Rattle.eg_template.specs.declared.act.Command.TheVariants as commands
 use Rattle.eg_template.specs.declared.grammar.TheConstants.{ADD, QUIT}
-
--- what the first field of a role stands for
-abbrev pub value_of : Role → List FieldView → Option Value
-value_of role fields = option_map (λ (field : FieldView). field.value) (field_of role fields)
 
 -- ADD, by its number
 abbrev pub add_by : Option Value → Command

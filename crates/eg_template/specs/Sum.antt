@@ -1,7 +1,6 @@
 -- The sum, what a command makes of it, and what it shows.
-use Rattle.std.specs.Prelude.{ℕ, ◌+◌, ◌-◌, nat_le, if◌then◌else◌, List, [], ◌++◌, codes}
+use Rattle.std.specs.Prelude.{ℕ, ◌+◌, ◌-◌, nat_le, if◌then◌else◌, List, [], ◌∷◌, codes}
 use Rattle.std.specs.Fmt.{decimal}
-use Rattle.cm_text.specs.ScreenBytes.{end_of_line}
 use Rattle.eg_template.specs.declared.act.Command.{Command}
 use Rattle.eg_template.specs.declared.act.Command.TheVariants as commands
 use Rattle.eg_template.specs.declared.act.TheConstants.{MOST}
@@ -15,18 +14,14 @@ abbrev pub obeyed : Command → ℕ → ℕ
 obeyed (commands.Add number) sum = sum_with number sum
 obeyed command sum = sum
 
--- the line of a sum
-unfoldable pub sum_text : ℕ → List ℕ
-sum_text sum = decimal sum ++ end_of_line
-
 unfoldable pub too_large : List ℕ
 too_large = codes "?The sum is too large"
 
--- what ADD shows: the sum, or that it would be too large
+-- the line that ADD shows: the sum, or that it would be too large
 abbrev pub answer : ℕ → ℕ → List ℕ
-answer number sum = if nat_le number (MOST - sum) then sum_text (sum_with number sum) else too_large ++ end_of_line
+answer number sum = if nat_le number (MOST - sum) then decimal (sum_with number sum) else too_large
 
--- what a command shows
-abbrev pub reply : Command → ℕ → List ℕ
-reply (commands.Add number) sum = answer number sum
+-- the lines that a command shows
+abbrev pub reply : Command → ℕ → List (List ℕ)
+reply (commands.Add number) sum = answer number sum ∷ []
 reply command sum = []

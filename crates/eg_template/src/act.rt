@@ -1,12 +1,12 @@
 // What a command makes of the sum, and what it shows.
-ghost use Rattle.std.specs.Prelude.{◌≡◌, ◌≤◌};
-ghost use Rattle.cm_io.specs.Fault.{PutCause};
-ghost use Rattle.cm_io.specs.Contents.{Adds};
+ghost use Rattle.std.specs.Prelude.{◌≡◌, ◌++◌};
+ghost use Rattle.cm_text.specs.ScreenBytes.{end_of_line};
+ghost use Rattle.cm_io.specs.Pieces.{shown_lines};
 ghost use Rattle.cm_io.specs.Writer.{Writes};
-ghost use Rattle.eg_template.specs.Sum.{answer, obeyed, reply, sum_text, sum_with};
+ghost use Rattle.eg_template.specs.Sum.{answer, obeyed, reply, sum_with};
 
-use cm_io::{Put, Sink, Writer};
-use cm_text::end_of_line;
+use cm_io::{Sink, Writer};
+use cm_text::decimal_digits;
 
 /// The greatest sum.
 pub const MOST: u64 = u64::MAX;
@@ -22,28 +22,12 @@ pub enum Command {
     Quit,
 }
 
-/// Does what a command says, and shows its reply, which ADD has: the sum, or that it would be too large, and then it
-/// stays. It acts also where the screen fails.
-pub fn obey<S: Sink>(command: Command, sum: &mut u64, screen: &mut S) -> Put
-    ensures sum { sum.new ≡ obeyed command sum.old }
-    ensures reply { Adds (S.contents screen.old) (S.contents screen.new) (reply command sum.old) result }
-    ensures later { S.faults screen.old ≤ S.faults screen.new }
-    ensures cause { PutCause (S.faults screen.old) (S.faults screen.new) result }
+/// Does what a command says. A number that would make the sum too large leaves it.
+pub fn obey(command: Command, sum: &mut u64)
+    ensures { sum.new ≡ obeyed command sum.old }
 {
-    let mut out = Writer::new(screen);
-    put_reply(command, *sum, &mut out);
-    *sum = sum_after(command, *sum);
-    out.outcome()
-}
-
-// The sum after a command.
-fn sum_after(command: Command, sum: u64) -> u64
-    ensures { result ≡ obeyed command sum }
-{
-    match command {
-        Command::Add(number) => sum_with(number, sum),
-        Command::Quit => sum,
-        Command::Nothing => sum,
+    if let Command::Add(number) = command {
+        *sum = sum_with(number, *sum);
     }
 }
 
@@ -58,10 +42,10 @@ fn sum_with(number: u64, sum: u64) -> u64
     }
 }
 
-// Shows the reply of a command.
-#[tactic(auto, using(cm_io::proofs::Texts::writes_none))]
-fn put_reply<S: Sink>(command: Command, sum: u64, out: &mut Writer<'_, S>)
-    ensures { Writes S.Sink out.old out.new (reply command sum) }
+/// Writes the lines that a command shows, which ADD has: the sum that it makes, or that it would be too large.
+#[tactic(auto, using(cm_io::proofs::Texts::lines))]
+pub fn put_reply<S: Sink>(command: Command, sum: u64, out: &mut Writer<'_, S>)
+    ensures { Writes S.Sink out.old out.new (shown_lines (reply command sum)) }
 {
     match command {
         Command::Add(number) => put_answer(number, sum, out),
@@ -70,23 +54,14 @@ fn put_reply<S: Sink>(command: Command, sum: u64, out: &mut Writer<'_, S>)
     }
 }
 
-// Shows the sum with a number more, or that it would be too large.
+// Writes the line of ADD.
 #[tactic(auto, unfolding(crate::specs::Sum::too_large))]
 fn put_answer<S: Sink>(number: u64, sum: u64, out: &mut Writer<'_, S>)
-    ensures { Writes S.Sink out.old out.new (answer number sum) }
+    ensures { Writes S.Sink out.old out.new (answer number sum ++ end_of_line) }
 {
     if number <= MOST - sum {
-        put_sum(sum_with(number, sum), out);
+        out.put_line(decimal_digits(sum_with(number, sum)).as_bytes());
     } else {
         out.put_line(b"?The sum is too large");
     }
-}
-
-// Shows a sum.
-#[tactic(auto, using(cm_io::proofs::Texts::texts), unfolding(crate::specs::Sum::sum_text))]
-fn put_sum<S: Sink>(sum: u64, out: &mut Writer<'_, S>)
-    ensures { Writes S.Sink out.old out.new (sum_text sum) }
-{
-    out.put_decimal(sum);
-    out.put(end_of_line());
 }

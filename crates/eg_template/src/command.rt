@@ -1,6 +1,6 @@
 // What a confirmed line commands, by the roles of its fields.
 ghost use Rattle.std.specs.Prelude.{◌≡◌};
-ghost use Rattle.eg_template.specs.Command.{add_by, command_of, value_of};
+ghost use Rattle.eg_template.specs.Command.{add_by, command_of};
 
 use crate::Command;
 use crate::grammar::{ADD, QUIT};
@@ -13,8 +13,8 @@ use cm_state::Session;
 pub fn command_of(session: &Session) -> Command
     ensures { result ≡ command_of session.now }
 {
-    match value_of(session, Role::Verb) {
-        Some(Value::Key { code: ADD, .. }) => add_by(value_of(session, Role::Value)),
+    match session.value_of(Role::Verb) {
+        Some(Value::Key { code: ADD, .. }) => add_by(session.value_of(Role::Value)),
         Some(Value::Key { code: QUIT, .. }) => Command::Quit,
         _ => Command::Nothing,
     }
@@ -27,15 +27,5 @@ fn add_by(value: Option<Value>) -> Command
     match value {
         Some(Value::Number(number)) => Command::Add(number),
         _ => Command::Nothing,
-    }
-}
-
-// What the first field of a role stands for.
-fn value_of(session: &Session, role: Role) -> Option<Value>
-    ensures { result ≡ value_of role session.now.fields }
-{
-    match session.field_of(role) {
-        Some(field) => Some(*field.value()),
-        None => None,
     }
 }

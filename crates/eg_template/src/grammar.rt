@@ -1,11 +1,10 @@
 // The grammar.
 ghost use Rattle.std.specs.Prelude.{◌≡◌, IfOk};
-ghost use Rattle.eg_template.specs.Graph.{command_entries, confirm, graph, graph_nodes};
+ghost use Rattle.eg_template.specs.Graph.{command_entries, graph, graph_nodes};
 
 use cm_blocks::{Block, Function, Grammar, Node, Role};
 use cm_io::NoMemory;
 use cm_tables::{Entry, Table};
-use cm_text::Name;
 use std::alloc::Global;
 
 // The codes of the commands.
@@ -44,18 +43,11 @@ fn nodes(alloc: Global) -> Result<Vec<Node>, NoMemory>
     ensures { IfOk result (λ nodes. nodes.items ≡ graph_nodes) }
 {
     let command = Block::new(Function::Key(0), Role::Verb, LINE_END);
-    let guide = Block::new(Function::Noise(Name::new("NUMBER")), Role::None, 3);
     let number = Block::new(Function::Number, Role::Value, LINE_END);
     Ok(vec![in alloc;
-        Node::new(vec![in alloc; confirm(), command]?),
-        Node::new(vec![in alloc; confirm()]?),
-        Node::new(vec![in alloc; guide]?),
+        Node::new(vec![in alloc; Block::confirm(LINE_END), command]?),
+        Node::new(vec![in alloc; Block::confirm(LINE_END)]?),
+        Node::new(vec![in alloc; Block::guide("NUMBER", 3)]?),
         Node::new(vec![in alloc; number]?),
     ]?)
-}
-
-fn confirm() -> Block
-    ensures { result ≡ confirm }
-{
-    Block::new(Function::Confirm, Role::None, LINE_END)
 }

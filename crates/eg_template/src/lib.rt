@@ -7,6 +7,6 @@ pub mod grammar;
 pub mod laws;
 mod program;
 
-pub use act::{Command, obey};
+pub use act::{Command, MOST, obey, put_reply};
 pub use command::command_of;
 pub use program::Program;

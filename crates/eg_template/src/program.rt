@@ -1,13 +1,13 @@
-// The program, which acts by lines alone. `run_line_program` of cm_run runs it.
+// The program, which acts by lines alone.
 ghost use Rattle.std.specs.Prelude.{◌≡◌};
 ghost use Rattle.eg_template.specs.Program.{program_start};
 
 use crate::grammar::COMMANDS;
-use crate::{Command, command_of, obey};
+use crate::{Command, command_of, obey, put_reply};
 use cm_blocks::Grammar;
 use cm_files::OneDirectory;
 use cm_hooks::NoRules;
-use cm_io::{Put, Sink};
+use cm_io::{Sink, Writer};
 use cm_run::LineProgram;
 use cm_state::{Prompt, Session};
 
@@ -36,13 +36,17 @@ impl Program {
 }
 
 impl LineProgram for Program {
+    ghost use Rattle.cm_run.specs.PromptLaws.{main_until};
     ghost use Rattle.eg_template.specs.Program.{program_semantics};
+    ghost use Rattle.eg_template.specs.declared.grammar.TheConstants.{COMMANDS};
 
     type Rules = NoRules;
 
     type Names = OneDirectory;
 
     ghost means = { program_semantics };
+
+    ghost prompts = { λ at. main_until at.has_quit COMMANDS };
 
     fn names(&self) -> &OneDirectory {
         &self.names
@@ -61,9 +65,10 @@ impl LineProgram for Program {
         }
     }
 
-    fn obey<S: Sink>(&mut self, session: &Session, _grammar: &Grammar, screen: &mut S) -> Put {
+    fn obey<S: Sink>(&mut self, session: &Session, _grammar: &Grammar, out: &mut Writer<'_, S>) {
         let command = command_of(session);
+        put_reply(command, self.sum, out);
         self.has_quit = matches!(command, Command::Quit);
-        obey(command, &mut self.sum, screen)
+        obey(command, &mut self.sum);
     }
 }

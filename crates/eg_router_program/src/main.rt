@@ -1,0 +1,16 @@
+//! The program of `./router`: the run of the router over the standard streams.
+#![tactic(auto)]
+
+use cm_run::{Stop, run_over_streams, status_of};
+use eg_router::Router;
+use eg_router::grammar::grammar;
+use std::process::ExitCode;
+
+/// Runs the router over the standard streams, and ends with its status.
+fn main(rt: HostRuntime) -> ExitCode {
+    let Ok(grammar) = grammar(rt.alloc()) else {
+        return ExitCode::from(status_of(Err(Stop::Memory)));
+    };
+    let mut router = Router::new();
+    ExitCode::from(status_of(run_over_streams(&rt, &mut router, &grammar)))
+}
