@@ -3,11 +3,11 @@
 // What must stand is the trace of the whole run, cut where a put fails. The screen fails in one put alone, and would
 // take what is put after it.
 use crate::given::run_program;
-use cm_faults::{
+use cm_io::{MemClock, MemHost, NoMemory};
+use cm_io_tests::{
     Failing, NOTHING, Part, PartSink, Stands, closing, has_image, is_written, push_text, stands_at,
     status_of,
 };
-use cm_io::{MemClock, MemHost, NoMemory};
 use ex_batch::{Status, Words};
 use std::alloc::{AllocError, Global};
 use std::marker::Brand;
@@ -41,7 +41,7 @@ const CALLS: u32 = 18;
 // How many puts fail together with each call.
 const FIRST: usize = 5;
 
-// What stands at the end of a run.
+// What is at the end of a run.
 #[derive(Drop)]
 struct Outcome {
     status: Status,

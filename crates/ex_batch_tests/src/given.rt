@@ -1,4 +1,4 @@
-// What the runs of the tests are given, and what is to stand at their ends.
+// What the runs of the tests are given, and what is to be at their ends.
 ghost use Rattle.std.specs.Prelude.{◌≡◌, ◌<◌};
 
 use cm_blocks::Steps;
@@ -16,7 +16,7 @@ pub struct Given<'a> {
     pub file_room: u32,
 }
 
-// What stands at the end of a run.
+// What is at the end of a run.
 #[derive(Drop)]
 pub struct Outcome {
     pub status: Status,

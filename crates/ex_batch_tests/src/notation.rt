@@ -23,7 +23,7 @@ pub(crate) fn push_said(text: &str, said: &mut Vec<u8>) -> Result<(), AllocError
     Ok(())
 }
 
-// Adds what a part says, which begins after a brace or stands before the first one.
+// Adds what a part says, which begins after a brace or is before the first one.
 fn push_part(part: &str, said: &mut Vec<u8>) -> Result<(), AllocError> {
     let Some((name, rest)) = part.split_once('}') else {
         return said.extend_from_slice(part.as_bytes());

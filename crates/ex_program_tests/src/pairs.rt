@@ -4,11 +4,11 @@
 // What must stand is the trace of the whole session, cut where a call fails. Screen and log fail in one put alone, and
 // would take what is put after it.
 use crate::given::{run_program, words_of};
-use cm_faults::{
+use cm_io::{Got, MemClock, MemHost, MemSource, NoMemory, Source};
+use cm_io_tests::{
     Failing, NOTHING, Part, PartSink, Stands, closing, has_image, is_written, push_text, stands_at,
     status_of,
 };
-use cm_io::{Got, MemClock, MemHost, MemSource, NoMemory, Source};
 use ex_program::Status;
 use std::alloc::{AllocError, Global};
 use std::marker::Brand;
@@ -54,7 +54,7 @@ show Logged out~";
 // As many calls as the longest save has, and one more.
 const CALLS: u32 = 11;
 
-// What stands at the end of a session.
+// What is at the end of a session.
 #[derive(Drop)]
 struct Outcome {
     status: Status,

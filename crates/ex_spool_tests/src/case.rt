@@ -37,7 +37,7 @@ const NAMES: [&str; 13] = [
     "words",
 ];
 
-// What stands at the end of a run.
+// What is at the end of a run.
 #[derive(Drop)]
 struct Outcome {
     status: Status,

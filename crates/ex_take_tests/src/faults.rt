@@ -7,8 +7,8 @@ ghost use Rattle.ex_grammar.specs.Graph.{exec_graph};
 
 use crate::files::{exec_of, has, place};
 use cm_blocks::{Grammar, Steps};
-use cm_faults::{Faults, Part, PartSink, Stop, stands_at};
 use cm_io::{MemHost, NoMemory};
+use cm_io_tests::{Faults, Part, PartSink, Stop, stands_at};
 use ex_grammar::grammar;
 use ex_image::encode;
 use ex_store::Store;
@@ -36,7 +36,7 @@ act EXEC20 2|D OPERATOR 1|D X 1|D Y 1|C OPERATOR|F OPERATOR A.CMD.1 U 1 0 0 21|T
     F OPERATOR B.CMD.1 U 1 0 - 35|INF VER|BUILD <X>|COPY A.CMD C.CMD||\
     F OPERATOR C.CMD.1 U 1 0 - 21|TAKE B.CMD|BUILD <Y>||E|";
 
-// What stands after a file that was taken.
+// What is after a file that was taken.
 #[derive(Drop)]
 struct Outcome {
     took: Option<Took>,

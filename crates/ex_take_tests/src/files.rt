@@ -11,7 +11,7 @@ use ex_take::Exec;
 use std::alloc::{AllocError, Global};
 use std::test::Fail;
 
-/// What stands before a bar, and after it.
+/// What is before a bar, and after it.
 pub(crate) fn cut(text: &str) -> (&str, &str) {
     text.split_once('|').unwrap_or((text, ""))
 }

@@ -4,11 +4,11 @@
 // What must stand is the trace of the whole session, cut where a call fails. The screen fails in one put alone, and
 // would take what is put after it.
 use crate::given::run_program;
-use cm_faults::{
+use cm_io::{Got, MemClock, MemHost, MemSource, NoMemory, Source};
+use cm_io_tests::{
     Failing, NOTHING, Part, PartSink, Stands, closing, has_image, is_written, push_text, stands_at,
     status_of,
 };
-use cm_io::{Got, MemClock, MemHost, MemSource, NoMemory, Source};
 use mm_mail::{Status, Words};
 use std::alloc::{AllocError, Global};
 use std::marker::Brand;
@@ -77,7 +77,7 @@ const CALLS: u32 = 12;
 // How many gets, and how many puts, fail together with each call.
 const FIRST: usize = 5;
 
-// What stands at the end of a session.
+// What is at the end of a session.
 #[derive(Drop)]
 struct Outcome {
     status: Status,

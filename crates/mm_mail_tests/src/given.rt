@@ -1,4 +1,4 @@
-// What the runs of the tests are given, and what is to stand at their ends.
+// What the runs of the tests are given, and what is to be at their ends.
 ghost use Rattle.std.specs.Prelude.{◌≡◌, ◌<◌};
 
 use cm_blocks::Steps;
@@ -20,7 +20,7 @@ pub struct Given<'a> {
     pub file_room: u32,
 }
 
-// What stands at the end of a run.
+// What is at the end of a run.
 #[derive(Drop)]
 pub struct Outcome {
     pub status: Status,
@@ -49,7 +49,7 @@ pub(crate) fn outcome_of(
     Ok(outcome)
 }
 
-// What stands before it, with a status that is none yet.
+// What is before it, with a status that is none yet.
 fn before(runtime: &HostRuntime, given: &Given<'_>) -> Result<Outcome, NoMemory> {
     let alloc = runtime.alloc();
     Ok(Outcome {

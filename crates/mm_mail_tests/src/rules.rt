@@ -102,7 +102,7 @@ impl Rules for Sizes {
     fn are_lawful(&self) {}
 }
 
-// Each line has what stands where the number of a message is read, and what its chain says: the rules that are
+// Each line has what is where the number of a message is read, and what its chain says: the rules that are
 // lent are asked, so that a number that the rule of mail takes is refused, and what it refuses is taken.
 const FIELDS: &str = "123|Fault(Fault { code: Rejected, node: 2, at: 0 })
 0|Hook { id: 0, value: 1 } 0..1

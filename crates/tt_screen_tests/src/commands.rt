@@ -1,7 +1,6 @@
 // The grammar of the sessions, which asks no hook.
-use cm_blocks::{Block, Function, Grammar, Node, Role};
+use cm_blocks::{Block, Function, Grammar, Role, push_nodes};
 use cm_tables::{Entry, Table};
-use cm_text::Name;
 use std::alloc::Global;
 use std::test::Fail;
 
@@ -12,9 +11,7 @@ pub(crate) fn grammar_of(alloc: Global) -> Result<Grammar, Fail> {
         Entry::new("DIRECTORY", 1, 2),
     ]?)?;
     let mut nodes = Vec::new(alloc);
-    for block in blocks(alloc)? {
-        nodes.push(Node::new(vec![in alloc; block]?))?;
-    }
+    push_nodes(&mut nodes, blocks(alloc)?, alloc)?;
     Ok(Grammar::new(nodes, vec![in alloc; commands]?)?)
 }
 
@@ -22,8 +19,8 @@ pub(crate) fn grammar_of(alloc: Global) -> Result<Grammar, Fail> {
 fn blocks(alloc: Global) -> Result<Vec<Block>, Fail> {
     Ok(vec![in alloc;
         Block::new(Function::Key(0), Role::None, 1),
-        Block::new(Function::Confirm, Role::None, 1),
-        Block::new(Function::Noise(Name::new("OF")), Role::None, 3),
+        Block::confirm(1),
+        Block::guide("OF", 3),
         Block::new(Function::Text, Role::None, 1),
     ]?)
 }

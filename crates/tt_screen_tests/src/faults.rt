@@ -2,8 +2,8 @@
 //
 // What must stand is the trace of the whole run, cut where a call fails. The screen fails in one put alone, and would
 // take what is put after it.
-use cm_faults::{Faults, Part, PartSink, Stop, stands_at};
 use cm_io::{Got, MemSource, NoMemory, Source};
+use cm_io_tests::{Faults, Part, PartSink, Stop, stands_at};
 use std::alloc::Global;
 use std::test::Fail;
 use tt_screen::{Status, tt20};
@@ -29,7 +29,7 @@ const MESSAGE: &str = "show ?Read fault~";
 
 const PARTS: [Part; 3] = [Part::Nothing, Part::First, Part::AllButLast];
 
-// What stands at the end of a run, and how many bytes are left.
+// What is at the end of a run, and how many bytes are left.
 #[derive(Drop)]
 struct Outcome {
     status: Status,
@@ -118,7 +118,7 @@ fn try_get(alloc: Global, get: u32) -> Result<(), Fail> {
     Err(Fail::new(format_args!("get {get}: {:?}", outcome.status)))
 }
 
-// With each put of a run failing: it shows what stands before, and has the status that a failed screen leaves.
+// With each put of a run failing: it shows what is before, and has the status that a failed screen leaves.
 fn try_puts(
     alloc: Global,
     get: Option<u32>,

@@ -185,7 +185,7 @@ fn tries(rt: &impl Abort, runtime: &HostRuntime, cases: &str) -> Result<(), Fail
     tries_with::<Brand, _>(rt, runtime, Blank::new(1), cases.as_bytes())
 }
 
-// Of a line past the 80th column the first bytes stand there; what is taken away and typed again past it is not seen.
+// Of a line past the 80th column the first bytes are there; what is taken away and typed again past it is not seen.
 const LONG: &str = "\
 @|{78*A}B|@{78*A}B{EOL}
 @|{78*A}BC|@{78*A}B{EOL}
@@ -234,7 +234,7 @@ fn shows_prompt_and_line(rt: HostRuntime) -> Result<(), Fail> {
     tries(&rt, &rt, SHORT)
 }
 
-// Of a line that is continued the last row stands there, and the rows before it stay where they are.
+// Of a line that is continued the last row is there, and the rows before it stay where they are.
 const CONTINUED: &str = "\
 @|DIR -{CR}AB|@DIR -{EOL}AB{EOL}
 @|DIR -{CR}{DEL}B|@DIR -{EOL}{EOL}@DIR B{EOL}
