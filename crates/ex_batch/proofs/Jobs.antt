@@ -45,7 +45,7 @@ module _ (before now : Stage ExecState) (result : Result Unit Stop) (at : ExecSt
   unfolding job_line_effects
   job_goes_on session moment busy obeys = rw busy obeys
 
-  -- a command that may not stand there is refused
+  -- a command that may not be there is refused
   pub barred : (session : SessionState) (moment : ℕ) (command : Command) (bar : Option Code) (code : Code)
       → command ≡ command_at at.interpreter session → bar ≡ bar_of command → bar ≡ Some code
       → Obeys before now (refuses code at ∷ []) result

@@ -14,11 +14,11 @@ use Rattle.cm_run.specs.Semantics.{setting_of}
 use Rattle.cm_run.specs.Obey.{left_by}
 use Rattle.cm_run.specs.Trace.{effects_trace, file_session, line_trace, node_of}
 use Rattle.ex_commands.specs.declared.command.Command.{Command}
-use Rattle.ex_control.specs.Control.{is_parsable}
 use Rattle.ex_take.specs.Exec.{command_effects, exec_semantics, line_effects}
 use Rattle.ex_take.specs.ExecState.{ExecState}
 use Rattle.ex_take.specs.Interpreter.{command_at}
 use Rattle.ex_take.specs.Taking.{is_at_rest}
+use Rattle.ex_batch.specs.Control.{is_parsable}
 use Rattle.ex_batch.specs.Batch.{line_step, text_trace}
 use Rattle.ex_batch.specs.Job.{bar_of, job_effects, job_semantics, order_effects, unless_barred}
 use Rattle.ex_batch.specs.LineCount.{used_at, used_from, used_in}
@@ -47,7 +47,7 @@ used_few lines (suc more) moments at (Line place) =
 pub lines_used : (lines : List (List ℕ)) (moments : List ℕ) (at : ExecState) → length (used_in lines moments at) ≤ CONTROL_LINES
 lines_used lines moments at = used_few lines CONTROL_LINES moments at (Line 0)
 
--- a line of the EXEC's that may stand there
+-- a line of the EXEC's that may be there
 module _ (at : ExecState) (text : List ℕ) (moment : ℕ) (rests : is_at_rest at ≡ true) where
   abbrev session : SessionState
   session = file_session job_semantics at text

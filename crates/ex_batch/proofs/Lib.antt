@@ -3,6 +3,8 @@ mod Ends
 mod FileNames
 mod HandedLines
 mod Jobs
+mod LabelIndex
+mod LabelNames
 mod LawLemmas
 mod LineKeys
 mod Outcomes

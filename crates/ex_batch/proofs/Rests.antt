@@ -15,13 +15,13 @@ use Rattle.ex_store.specs.declared.place.Place.{Place}
 use Rattle.ex_commands.specs.Command.{is_pending}
 use Rattle.ex_commands.specs.declared.command.Command.{Command}
 use Rattle.ex_commands.specs.declared.command.Command.TheVariants as commands
-use Rattle.ex_control.specs.Control.{Bad, Condition, Control, Exec, Goto, Label, Nothing, Order, Plain, control_of, is_parsable}
-use Rattle.ex_control.specs.Labels.{place_of}
 use Rattle.ex_take.specs.Exec.{refuses}
 use Rattle.ex_take.specs.ExecState.{ExecState, forgiven}
 use Rattle.ex_take.specs.Interpreter.{command_at}
 use Rattle.ex_take.specs.Taking.{RestsUnlessEnded, is_at_rest}
 use Rattle.ex_take.proofs.Rests.{Rest, command_rests, nothing_rests, refusal_rests, rest_goes_on, stopped_rests}
+use Rattle.ex_batch.specs.Control.{Bad, Condition, Control, Exec, Goto, Label, Nothing, Order, Plain, control_of, is_parsable}
+use Rattle.ex_batch.specs.Labels.{place_of}
 use Rattle.ex_batch.specs.Batch.{Step, batch_from, condition_step, control_step, is_met, label_next, line_step, nothing_but, order_step, text_step, text_trace, unless_refused}
 use Rattle.ex_batch.specs.Job.{bar_of, job_effects, job_semantics, order_effects, unless_barred, waiting_bar}
 use Rattle.ex_batch.specs.declared.step.Ended.TheVariants.{Finished, Stopped}
@@ -29,7 +29,7 @@ use Rattle.ex_batch.specs.declared.step.Next.{Next}
 use Rattle.ex_batch.specs.declared.step.Next.TheVariants.{Line, Over}
 use Rattle.ex_batch.proofs.HandedLines.{handed_leads}
 
--- a command that may stand in a control file types no file in, and waits for no subcommands
+-- a command that may be in a control file types no file in, and waits for no subcommands
 no_waiting : (test : Bool) → waiting_bar test ≡ None → test ≡ false
 no_waiting true is = absurd (cc)
 no_waiting false is = refl

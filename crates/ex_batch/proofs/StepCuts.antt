@@ -14,9 +14,9 @@ use Rattle.cm_run.specs.declared.stop.Stop.{Stop}
 use Rattle.cm_run.proofs.Effects.{effects_traces}
 use Rattle.cm_run.proofs.Joins.{traces_both, traces_cut, traces_none}
 use Rattle.cm_run.proofs.Outcomes.{moment_taken}
-use Rattle.ex_control.specs.Control.{is_parsable}
 use Rattle.ex_take.specs.Exec.{refuses}
 use Rattle.ex_take.specs.ExecState.{ExecState}
+use Rattle.ex_batch.specs.Control.{is_parsable}
 use Rattle.ex_batch.specs.Batch.{Step, after_event, after_text, nothing_but, text_step, text_trace}
 use Rattle.ex_batch.specs.Job.{job_semantics}
 use Rattle.ex_batch.specs.Takes.{Takes, step_outcome}

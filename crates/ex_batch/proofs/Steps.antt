@@ -12,9 +12,9 @@ use Rattle.cm_run.specs.Event.{Act, Moment, Screen}
 use Rattle.cm_run.specs.Observation.{Observation, Performs, observation}
 use Rattle.cm_run.specs.declared.stop.Stop.{Stop}
 use Rattle.cm_run.proofs.Outcomes.{acted}
-use Rattle.ex_control.specs.Control.{Bad, Condition, Control, Exec, Goto, Label, Nothing, Order, Plain, control_of}
-use Rattle.ex_control.specs.Labels.{place_of}
 use Rattle.ex_take.specs.ExecState.{ExecState, forgiven}
+use Rattle.ex_batch.specs.Control.{Bad, Condition, Control, Exec, Goto, Label, Nothing, Order, Plain, control_of}
+use Rattle.ex_batch.specs.Labels.{place_of}
 use Rattle.ex_batch.specs.Batch.{Step, after_event, condition_step, control_step, is_met, label_next, line_step, nothing_but, order_step, shown, text_step, unless_refused}
 use Rattle.ex_batch.specs.Job.{job_semantics}
 use Rattle.ex_batch.specs.Takes.{Takes}

@@ -18,12 +18,12 @@ use Rattle.cm_run.specs.Semantics.{setting_of}
 use Rattle.cm_run.specs.Trace.{effects_trace, file_session, line_trace, node_of}
 use Rattle.cm_run.specs.declared.engine.TheConstants.{FILE_LINES}
 use Rattle.cm_run.proofs.Screens.{state-effects}
-use Rattle.ex_control.specs.Control.{Control, Exec, Plain, control_of, is_parsable}
 use Rattle.ex_take.specs.Exec.{exec_semantics, refuses, stopped}
 use Rattle.ex_take.specs.ExecState.{ExecState}
 use Rattle.ex_take.specs.Interpreter.{command_at}
 use Rattle.ex_take.specs.Taking.{is_at_rest}
 use Rattle.ex_take.proofs.QuietKeys.{none_next, quiet_next}
+use Rattle.ex_batch.specs.Control.{Control, Exec, Plain, control_of, is_parsable}
 use Rattle.ex_batch.specs.Batch.{Batch, Step, after_event, after_text, batch_from, batch_of, control_step, joined, limit_end, line_step, nothing_but, order_step, shown, text_trace, unless_refused}
 use Rattle.ex_batch.specs.Job.{bar_of, job_semantics, order_effects, unless_barred}
 use Rattle.ex_batch.specs.TypedRuns.{AreAccepted, ComesTo, IsAccepted, TypedLine, all_events, file_events, in_file, shown_events, typed_events, typed_lines}

@@ -7,10 +7,10 @@ use Rattle.cm_fields.specs.declared.code.Code.TheVariants.{BadControl, BadLine, 
 use Rattle.cm_run.specs.Event.{Act, Event, Moment, Screen, moments_after, state_after}
 use Rattle.cm_run.specs.SingleLine.{handed_trace}
 use Rattle.cm_run.specs.Trace.{effects_trace}
-use Rattle.ex_control.specs.Control.{Control, Condition, Label, Nothing, Plain, Order, Bad, Exec, Goto, control_of, is_parsable}
-use Rattle.ex_control.specs.Labels.{place_of}
 use Rattle.ex_take.specs.Exec.{refuses}
 use Rattle.ex_take.specs.ExecState.{ExecState, forgiven}
+use Rattle.ex_batch.specs.Control.{Control, Condition, Label, Nothing, Plain, Order, Bad, Exec, Goto, control_of, is_parsable}
+use Rattle.ex_batch.specs.Labels.{place_of}
 use Rattle.ex_batch.specs.Job.{job_semantics}
 use Rattle.ex_batch.specs.declared.step.Ended.{Ended}
 use Rattle.ex_batch.specs.declared.step.Ended.TheVariants.{Finished, Stopped}
@@ -61,7 +61,7 @@ abbrev pub unless_refused : Option Code → Step → Step
 unless_refused None step = step
 unless_refused (Some code) step = nothing_but (Over (Stopped code))
 
--- [error-flag] a condition is met
+-- a condition is met
 abbrev pub is_met : Bool → Option Code → Bool
 is_met true why = is_some why
 is_met false why = not (is_some why)

@@ -11,7 +11,7 @@ use Rattle.cm_files.specs.Fields.{file}
 use Rattle.cm_blocks.specs.Words.{no_flags}
 use Rattle.ex_store.specs.declared.place.Place.{Place}
 use Rattle.ex_commands.specs.Line.{place_by}
-use Rattle.ex_control.specs.Control.{is_parsable}
+use Rattle.ex_batch.specs.Control.{is_parsable}
 
 -- a place, where there is one
 abbrev pub place_or_shape : Option Place → Result Place Code
@@ -25,7 +25,7 @@ place_said c word (tries.Accept value looked end) =
 place_said c word (tries.Refuse code looked) = Err code
 place_said c word tries.More = Err SpecShape
 
--- a word that could not stand in a line is no specification
+-- a word that could not be in a line is no specification
 unfoldable pub named_file : Catalogue → List ℕ → Result Place Code
 named_file c word =
     if is_parsable word then place_said c word (file c In no_flags (finished word) 0) else Err SpecShape

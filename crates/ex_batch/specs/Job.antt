@@ -1,4 +1,4 @@
--- What a line of the EXEC's does where it stands in a control file.
+-- What a line of the EXEC's does where it is in a control file.
 use Rattle.std.specs.Prelude.{ℕ, Bool, true, false, if◌then◌else◌, List, [], ◌∷◌, Option, None, Some}
 use Rattle.cm_fields.specs.declared.code.Code.{Code}
 use Rattle.cm_fields.specs.declared.code.Code.TheVariants.{NoSubcommands, NotInTake}
@@ -14,7 +14,7 @@ use Rattle.ex_take.specs.ExecState.{ExecState}
 use Rattle.ex_take.specs.Interpreter.{command_at}
 use Rattle.ex_take.specs.Taking.{is_at_rest}
 
--- why a command may not stand there: a file would be typed in, or it would wait for subcommands
+-- why a command may not be there: a file would be typed in, or it would wait for subcommands
 abbrev pub waiting_bar : Bool → Option Code
 waiting_bar true = Some NoSubcommands
 waiting_bar false = None

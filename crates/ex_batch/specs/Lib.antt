@@ -1,7 +1,9 @@
 pub mod Batch
+pub mod Control
 pub mod ControlFile
 pub mod Heads
 pub mod Job
+pub mod Labels
 pub mod LineCount
 pub mod Request
 pub mod RunEnd

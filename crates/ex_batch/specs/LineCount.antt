@@ -7,12 +7,12 @@ use Rattle.ex_batch.specs.declared.batch.TheConstants.{CONTROL_LINES}
 use Rattle.ex_batch.specs.declared.step.Next.{Next}
 use Rattle.ex_batch.specs.declared.step.Next.TheVariants.{Line, Over}
 
--- a place, where a line stands there
+-- a place, where a line is there
 abbrev pub used_at : ℕ → Option (List ℕ) → List ℕ
 used_at place None = []
 used_at place (Some line) = place ∷ []
 
--- the places of the lines that are used, in order; a line that is used again stands there again
+-- the places of the lines that are used, in order; a line that is used again is there again
 unfoldable pub used_from : List (List ℕ) → ℕ → List ℕ → ExecState → Next → List ℕ
 used_from lines more moments at (Over end) = []
 used_from lines zero moments at (Line place) = []

@@ -1,4 +1,4 @@
--- What stands at the end of a run of a control file.
+-- What is at the end of a run of a control file.
 use Rattle.std.specs.Prelude.{◌≡◌, ◌⊎◌, ◌≤◌, ◌+◌, ℕ, false, List, [], ◌∷◌, ◌++◌, codes, Option, Some, None, Result, Ok, Err, IfOk, IsTrue}
 use Rattle.cm_text.specs.ScreenBytes.{end_of_line}
 use Rattle.cm_fields.specs.declared.code.Code.{Code}
@@ -142,7 +142,7 @@ pub record Past (known : Type 0) (asked : JobForm) (a b : Scene) (before now : D
   pub rest : b ≡ with_screen at b.screen b.faults
   pub saves : Saves loaded now asked.form.out left.interpreter.state result
 
--- what stands at the end of what was asked for so
+-- what is at the end of what was asked for so
 abbrev pub StandsBy : Type 0 → JobForm → Scene → Scene → Disk → Disk → Status → Type 0
 StandsBy known asked a b before now result =
     (IsEarly asked.form.input result × Shown a b (message result) × IsLoaded asked.form.input before now)

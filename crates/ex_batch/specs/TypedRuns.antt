@@ -12,9 +12,9 @@ use Rattle.cm_run.specs.Event.{Event, Moment, Screen, Trials, moments_after, scr
 use Rattle.cm_run.specs.Semantics.{setting_of}
 use Rattle.cm_run.specs.Progress.{progress}
 use Rattle.cm_run.specs.Trace.{file_session, line_trace, node_of, run_trace, starting}
-use Rattle.ex_control.specs.Control.{Exec, Plain, control_of}
 use Rattle.ex_take.specs.Exec.{exec_semantics}
 use Rattle.ex_take.specs.ExecState.{ExecState}
+use Rattle.ex_batch.specs.Control.{Exec, Plain, control_of}
 use Rattle.ex_batch.specs.Batch.{Batch, shown, text_trace}
 use Rattle.ex_batch.specs.declared.step.Ended.TheVariants.{Finished}
 

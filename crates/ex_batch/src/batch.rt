@@ -8,13 +8,13 @@ ghost use Rattle.ex_batch.specs.Batch.{batch_of, limit_end};
 ghost use Rattle.ex_batch.specs.Job.{job_semantics};
 ghost use Rattle.ex_batch.specs.Takes.{step_outcome};
 
+use crate::file::ControlFile;
 use crate::job::Job;
 use crate::step::{Ended, Next, take_control};
 use cm_blocks::{Grammar, Steps};
 use cm_fields::Code;
 use cm_io::{Clock, Sink};
 use cm_run::Stop;
-use ex_control::ControlFile;
 use std::sync::ledger::Ledger;
 
 /// The most lines of a control file that a run uses. A line that is used again is counted again.

@@ -8,12 +8,12 @@ ghost use Rattle.cm_files.specs.Fields.{file as file_read};
 ghost use Rattle.ex_store.specs.State.{catalogue_of};
 ghost use Rattle.ex_batch.specs.ControlFile.{named_file, place_or_shape, place_said};
 
+use crate::control::parsable;
 use arrayvec::ArrayVec;
 use cm_fields::{Code, FileKind, Try};
 use cm_files::{Flags, file};
 use cm_text::TEXT_LIMIT;
 use ex_commands::place_by;
-use ex_control::parsable;
 use ex_store::{Place, Store};
 
 // A word, and what finishes it.

@@ -42,7 +42,7 @@ impl Model for Job {
     ghost view = { λ it. it.exec };
 }
 
-// Why a command may not stand in a control file.
+// Why a command may not be in a control file.
 #[tactic(auto, unfolding(crate::specs::Job::bar_of))]
 fn bar_of(command: &Command) -> Option<Code>
     ensures { result ≡ bar_of command.now }
@@ -108,7 +108,7 @@ impl Job {
         self.exec.refuse_line(code, screen)
     }
 
-    // Does what a line commands, unless it may not stand in a control file.
+    // Does what a line commands, unless it may not be in a control file.
     fn obey_order<S: Sink>(
         &mut self,
         session: &Session,

@@ -1,5 +1,5 @@
 //! Laws of control files. Each is a function that does nothing, whose contract is the law.
-ghost use Rattle.std.specs.Prelude.{◌≡◌, ◌≤◌, ◌∷◌, ℕ, Bool, List, [], true, false, Option, None, Some, length, map};
+ghost use Rattle.std.specs.Prelude.{◌≡◌, ◌≤◌, ◌∷◌, ℕ, Bool, List, [], true, false, Option, None, Some, codes, length, map};
 ghost use Rattle.std.specs.List.{list_any};
 ghost use Rattle.cm_text.specs.Text.{ends_in_hyphen, finished};
 ghost use Rattle.cm_fields.specs.declared.code.Code.{Code};
@@ -16,12 +16,12 @@ ghost use Rattle.ex_commands.specs.Act.{act_of};
 ghost use Rattle.ex_commands.specs.declared.acted.Acted.TheVariants as answers;
 ghost use Rattle.ex_commands.specs.declared.command.Command.{Command};
 ghost use Rattle.ex_store.specs.State.{State};
-ghost use Rattle.ex_control.specs.Control.{is_parsable};
 ghost use Rattle.ex_take.specs.Exec.{acts, exec_semantics};
 ghost use Rattle.ex_take.specs.ExecState.{ExecState, exec_start};
 ghost use Rattle.ex_take.specs.Interpreter.{command_at};
 ghost use Rattle.ex_take.specs.Taking.{RestsUnlessEnded, is_at_rest};
 ghost use Rattle.ex_batch.specs.Batch.{batch_from, batch_of, line_step, text_trace};
+ghost use Rattle.ex_batch.specs.Control.{Bad, Condition, Exec, Goto, Label, Nothing, Plain, control_of, is_parsable};
 ghost use Rattle.ex_batch.specs.Job.{bar_of, job_effects, job_semantics, order_effects};
 ghost use Rattle.ex_batch.specs.LineCount.{used_in};
 ghost use Rattle.ex_batch.specs.TypedRuns.{AreAccepted, ComesTo, RunsAlike, in_file, typed_lines};
@@ -29,6 +29,20 @@ ghost use Rattle.ex_batch.specs.declared.batch.TheConstants.{CONTROL_LINES};
 ghost use Rattle.ex_batch.specs.declared.step.Next.TheVariants.{Line};
 
 use ex_take::laws as refused_acts;
+
+/// What nine lines of a control file are.
+#[tactic(auto, unfolding(crate::specs::Control::control_of, crate::specs::Control::order_of, crate::specs::Control::is_label_name, crate::specs::Control::if_error, crate::specs::Control::if_no_error, crate::specs::Control::if_word, crate::specs::Control::goto_word, crate::specs::Control::colons, cm_text::specs::Case::begins_with, cm_text::specs::Case::equals, cm_text::specs::Bytes::is_word))]
+pub fn these_are_the_lines()
+    ensures empty { control_of [] ≡ Nothing }
+    ensures remark { control_of (codes "! @LOG") ≡ Nothing }
+    ensures error { control_of (codes "@if (error) @GOTO A") ≡ Condition true (Goto (codes "A")) }
+    ensures no_error { control_of (codes "@IF (NOERROR) @LOG") ≡ Condition false (Exec (codes "LOG")) }
+    ensures two { control_of (codes "@IF (ERROR) @IF (ERROR) @LOG") ≡ Condition true Bad }
+    ensures label { control_of (codes "Skip-1::") ≡ Label (codes "Skip-1") }
+    ensures goto { control_of (codes "@GOTO A") ≡ Plain (Goto (codes "A")) }
+    ensures exec { control_of (codes "@GOTO") ≡ Plain (Exec (codes "GOTO")) }
+    ensures bad { control_of (codes "LOG") ≡ Plain Bad }
+{}
 
 /// A run uses at most 10,000 lines.
 pub fn at_most_so_many_lines_are_used()
@@ -38,7 +52,7 @@ pub fn at_most_so_many_lines_are_used()
 {}
 
 /// A line of the EXEC's in a control file that is not refused does what the same line does where it is typed: where
-/// nothing is left to be done, and its parse is done and commands what may stand there, what happens is that of a
+/// nothing is left to be done, and its parse is done and commands what may be there, what happens is that of a
 /// confirmed line, with the lines of the command files that it takes.
 pub fn a_line_does_what_a_typed_one_does()
     ensures { (at : ExecState) → (text : List ℕ) → (moment : ℕ) → is_at_rest at ≡ true
@@ -88,7 +102,7 @@ pub fn nothing_is_left_between_two_lines()
 {}
 
 /// A refused line of the EXEC's changes no directory and no file: one that cannot be parsed, one whose parse ends in a
-/// fault, one whose command may not stand in a control file, and one whose command is refused itself. Of a TAKE that is
+/// fault, one whose command may not be in a control file, and one whose command is refused itself. Of a TAKE that is
 /// refused later, the lines before have acted.
 pub fn a_refused_line_changes_nothing()
     ensures text { (at : ExecState) → (text : List ℕ) → (moment : ℕ) → is_parsable text ≡ false

@@ -6,18 +6,19 @@ ghost use Rattle.cm_run.specs.Cause.{ObeyCause};
 ghost use Rattle.cm_run.specs.Cut.{Traces};
 ghost use Rattle.cm_run.specs.Event.{Moment};
 ghost use Rattle.cm_run.specs.Observation.{observation};
-ghost use Rattle.ex_control.specs.Control.{AreNamed, IsNamed, control_view, order_view};
+ghost use Rattle.ex_batch.specs.Control.{AreNamed, IsNamed, control_view, order_view};
 ghost use Rattle.ex_batch.specs.Batch.{after_event, after_text, condition_step, control_step, is_met, label_next, line_step, nothing_but, order_step, text_step, text_trace, unless_refused};
 ghost use Rattle.ex_batch.specs.Job.{job_semantics};
 ghost use Rattle.ex_batch.specs.Takes.{Takes, step_outcome};
 
+use crate::control::{Control, Order, control_of, parsable};
+use crate::file::ControlFile;
 use crate::job::Job;
 use crate::line_bytes::show_line;
 use cm_blocks::{Grammar, Steps};
 use cm_fields::Code;
 use cm_io::{Clock, Sink};
 use cm_run::{Stop, run_line};
-use ex_control::{Control, ControlFile, Order, control_of, parsable};
 use std::sync::ledger::Ledger;
 
 /// How a run over the lines of a control file ends.

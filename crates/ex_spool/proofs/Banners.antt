@@ -3,9 +3,9 @@ use Rattle.std.proofs.Common.{◌≡◌, ℕ, ◌==◌, true, false, List, [], �
 use Rattle.std.specs.Fmt.{decimal}
 use Rattle.std.proofs.lemmas.Bool.{eqb-false, eqb-true}
 use Rattle.std.proofs.lemmas.List.{append-nil}
-use Rattle.ex_pages.specs.Pages.{form_feed, page_text, row_text}
 use Rattle.ex_store.specs.Forms.{form_text}
 use Rattle.ex_store.specs.declared.queue.QueueEntry.{QueueEntry}
+use Rattle.ex_spool.specs.Pages.{form_feed, page_text, row_text}
 use Rattle.ex_spool.specs.Spool.{absent_text, banner, full_text, note_text}
 use Rattle.ex_spool.specs.Texts.{before_copies, before_copy, before_file, before_form, before_job, before_note, not_there}
 

@@ -2,6 +2,9 @@ mod Banners
 mod Copies
 mod Drops
 mod DueLaws
+mod PageLaws
+mod PartLaws
 mod Prints
 mod Queues
+mod RowLaws
 mod WordCases

@@ -12,7 +12,7 @@ use Rattle.ex_spool.specs.Among.{StandsIn, WasShown}
 use Rattle.ex_spool.specs.Spool.{is_due, pages, pages_of, without_due}
 use Rattle.ex_spool.specs.RunEnd.{Printed}
 
--- the pages of an entry that is due stand among those of all
+-- the pages of an entry that is due are among those of all
 pages_stand : (moment : ℕ) (state : State) (entry : QueueEntry) (front back : List QueueEntry) → state.queue ≡ front ++ entry ∷ back
     → is_due moment entry ≡ true
     → pages moment state

@@ -1,4 +1,4 @@
--- An element that stands in a list, and a text that was shown whole.
+-- An element that is in a list, and a text that was shown whole.
 use Rattle.std.specs.Prelude.{◌≡◌, ℕ, List, ◌∷◌, ◌++◌}
 use Rattle.cm_io.specs.Contents.{Contents, add}
 

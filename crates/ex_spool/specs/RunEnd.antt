@@ -1,4 +1,4 @@
--- What stands at the end of a run of the spooler.
+-- What is at the end of a run of the spooler.
 use Rattle.std.specs.Prelude.{◌≡◌, ◌⊎◌, ℕ, false, List, [], ◌++◌, codes, Option, Some, None, IsTrue}
 use Rattle.cm_text.specs.ScreenBytes.{end_of_line}
 use Rattle.cm_io.specs.Clock.{later_moments, next_moment}
@@ -84,7 +84,7 @@ pub record Ran (known : Type 0) (form : Form) (a b : Scene) (result : Status) : 
   pub taken : known → (moment ≡ next_moment a.moments) × (b.moments ≡ later_moments a.moments)
   pub printed : Printed start moment form.out a.screen b.screen a.faults b.faults loaded b.disk result
 
--- what stands at the end of what was asked for so
+-- what is at the end of what was asked for so
 abbrev pub StandsBy : Type 0 → Form → Scene → Scene → Status → Type 0
 StandsBy known form a b result =
     (IsEarly form.input result × Refused a b (message result) × IsLoaded form.input a.disk b.disk)

@@ -3,12 +3,12 @@ use Rattle.std.specs.Prelude.{ℕ, zero, suc, ◌/◌, ℤ, pos, int_le, Bool, t
 use Rattle.std.specs.Fmt.{decimal}
 use Rattle.std.specs.List.{flat_map}
 use Rattle.std.specs.Option.{option_map}
-use Rattle.ex_pages.specs.Pages.{body_text, page_text, row_text}
 use Rattle.ex_store.specs.Forms.{form_text}
 use Rattle.ex_store.specs.Rows.{row_at}
 use Rattle.ex_store.specs.State.{State}
 use Rattle.ex_store.specs.declared.key.FullName.{FullName}
 use Rattle.ex_store.specs.declared.queue.QueueEntry.{QueueEntry}
+use Rattle.ex_spool.specs.Pages.{body_text, page_text, row_text}
 use Rattle.ex_spool.specs.Texts.{before_copies, before_copy, before_file, before_form, before_job, before_note, dot, left_angle, not_there, right_angle}
 use Rattle.ex_spool.specs.declared.due.TheConstants.{DAY_SECONDS}
 

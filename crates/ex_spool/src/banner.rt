@@ -4,19 +4,19 @@
 ghost use Rattle.std.specs.Prelude.{◌≡◌, ◌<◌, ◌++◌};
 ghost use Rattle.std.specs.Fmt.{decimal};
 ghost use Rattle.cm_io.specs.Writer.{Writes};
-ghost use Rattle.ex_pages.specs.Pages.{form_feed, page_text, row_text};
 ghost use Rattle.ex_store.specs.Forms.{form_text};
 ghost use Rattle.ex_store.specs.declared.limits.TheConstants.{FORMS};
+ghost use Rattle.ex_spool.specs.Pages.{form_feed, page_text, row_text};
 ghost use Rattle.ex_spool.specs.Spool.{absent_text, banner, full_text, note_text};
 ghost use Rattle.ex_spool.specs.Texts.{before_copies, before_copy, before_file, before_form, before_job, not_there};
 
+use crate::row::form_feed;
 use crate::texts::{
     before_copies, before_copy, before_file, before_form, before_job, before_note, dot, left_angle,
     not_there, right_angle,
 };
 use cm_io::{Sink, Writer};
 use cm_text::end_of_line;
-use ex_pages::form_feed;
 use ex_store::{FullName, QueueEntry, form_text};
 
 // Puts <DIRECTORY>NAME.TYPE.GENERATION.
@@ -35,7 +35,7 @@ fn put_full<S: Sink>(file: &FullName, out: &mut Writer<'_, S>)
 }
 
 // Puts a row of two texts.
-#[tactic(auto, using(cm_io::proofs::Texts::texts), unfolding(ex_pages::specs::Pages::row_text))]
+#[tactic(auto, using(cm_io::proofs::Texts::texts), unfolding(crate::specs::Pages::row_text))]
 fn put_row<S: Sink>(word: &[u8], text: &[u8], out: &mut Writer<'_, S>)
     ensures { Writes S.Sink out.old out.new (row_text (word.now ++ text.now)) }
 {
@@ -45,7 +45,7 @@ fn put_row<S: Sink>(word: &[u8], text: &[u8], out: &mut Writer<'_, S>)
 }
 
 // Puts the row of the file.
-#[tactic(auto, using(cm_io::proofs::Texts::texts), unfolding(ex_pages::specs::Pages::row_text))]
+#[tactic(auto, using(cm_io::proofs::Texts::texts), unfolding(crate::specs::Pages::row_text))]
 fn put_file_row<S: Sink>(file: &FullName, out: &mut Writer<'_, S>)
     ensures { Writes S.Sink out.old out.new (row_text (before_file ++ full_text file.now)) }
 {
@@ -55,7 +55,7 @@ fn put_file_row<S: Sink>(file: &FullName, out: &mut Writer<'_, S>)
 }
 
 // Puts the row of a copy.
-#[tactic(auto, using(cm_io::proofs::Texts::texts), unfolding(ex_pages::specs::Pages::row_text))]
+#[tactic(auto, using(cm_io::proofs::Texts::texts), unfolding(crate::specs::Pages::row_text))]
 fn put_copy_row<S: Sink>(copy: u8, copies: u8, out: &mut Writer<'_, S>)
     ensures { Writes S.Sink out.old out.new
         (row_text (before_copy ++ decimal copy ++ before_copies ++ decimal copies)) }
@@ -103,7 +103,7 @@ pub(crate) fn put_banner<S: Sink>(entry: &QueueEntry, copy: u8, out: &mut Writer
 }
 
 // Puts the row of a file that is not there, and ends the page.
-#[tactic(auto, using(cm_io::proofs::Texts::texts), unfolding(ex_pages::specs::Pages::row_text))]
+#[tactic(auto, using(cm_io::proofs::Texts::texts), unfolding(crate::specs::Pages::row_text))]
 fn put_absent_row<S: Sink>(file: &FullName, out: &mut Writer<'_, S>)
     ensures { Writes S.Sink out.old out.new (row_text (before_file ++ full_text file.now ++ not_there) ++ form_feed) }
 {

@@ -1,14 +1,14 @@
 // The pages of an entry.
 ghost use Rattle.std.specs.Prelude.{◌≡◌, ◌<◌, ◌≤◌, Option};
 ghost use Rattle.cm_io.specs.Writer.{Writes};
-ghost use Rattle.ex_pages.specs.declared.row.TheConstants.{WIDEST_ROW};
 ghost use Rattle.ex_store.specs.declared.limits.TheConstants.{FORMS};
 ghost use Rattle.ex_spool.specs.Spool.{bytes_of, copies_text, copy_text, due_text, entry_text, width_of};
+ghost use Rattle.ex_spool.specs.declared.row.TheConstants.{WIDEST_ROW};
 
 use crate::banner::{put_absent, put_banner};
+use crate::body::put_body;
 use crate::due::is_due;
 use cm_io::{Sink, Writer};
-use ex_pages::put_body;
 use ex_store::{QueueEntry, Store};
 
 // How many bytes a row has, by the number of the form.

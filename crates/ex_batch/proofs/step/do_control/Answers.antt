@@ -1,5 +1,5 @@
 use Rattle.std.proofs.Common.{ap, ◌∙◌}
-use Rattle.ex_control.specs.Control.{control_view}
+use Rattle.ex_batch.specs.Control.{control_view}
 use Rattle.ex_batch.specs.Batch.{is_met}
 use Rattle.ex_batch.proofs.Steps.{control_condition, control_label, control_nothing, control_plain}
 use Rattle.ex_batch.proofs.step.do_control.Goals as goal

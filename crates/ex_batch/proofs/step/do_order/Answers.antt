@@ -1,5 +1,5 @@
 use Rattle.std.proofs.Common.{ap, ◌∙◌}
-use Rattle.ex_control.specs.Control.{order_view}
+use Rattle.ex_batch.specs.Control.{order_view}
 use Rattle.ex_batch.specs.Batch.{label_next}
 use Rattle.ex_batch.proofs.Steps.{order_bad, order_exec, order_goto}
 use Rattle.ex_batch.proofs.step.do_order.Goals as goal

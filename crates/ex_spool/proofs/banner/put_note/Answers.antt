@@ -1,7 +1,7 @@
 use Rattle.std.proofs.Common.{◌++◌, subst, sym, ◌∙◌}
 use Rattle.cm_io.specs.Writer.{Writes}
 use Rattle.cm_io.proofs.Texts.{writes_none}
-use Rattle.ex_pages.specs.Pages.{row_text}
+use Rattle.ex_spool.specs.Pages.{row_text}
 use Rattle.ex_spool.proofs.Banners.{note_none, note_some}
 use Rattle.ex_spool.proofs.banner.put_note.Goals as goal
 

@@ -1,7 +1,7 @@
 use Rattle.std.proofs.Common.{subst}
 use Rattle.cm_io.specs.Writer.{Writes}
 use Rattle.cm_io.proofs.Texts.{writes_both}
-use Rattle.ex_pages.specs.Pages.{body_text}
+use Rattle.ex_spool.specs.Pages.{body_text}
 use Rattle.ex_spool.proofs.entry.put_copy.Goals as goal
 
 pub returns : goal.returns

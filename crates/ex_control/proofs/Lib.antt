@@ -1,2 +1,0 @@
-mod LabelIndex
-mod LabelNames

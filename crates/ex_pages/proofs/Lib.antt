@@ -1,3 +1,0 @@
-mod PageLaws
-mod PartLaws
-mod RowLaws
