@@ -17,7 +17,7 @@ fn main(rt: HostRuntime) -> ExitCode {
     let words = given_words(&rt);
     let mut host = StdHost::new(&rt);
     let mut screen = StdSink::new(&rt);
-    let mut clock = StdClock::new(&rt);
+    let mut clock = StdClock { rt };
     let status = run::<StdHost, StdSink, StdClock, Brand>(
         &rt,
         Blank::new(1),

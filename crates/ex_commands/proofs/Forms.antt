@@ -19,7 +19,7 @@ use Rattle.cm_fields.specs.declared.value.Value.TheVariants as values
 use Rattle.cm_fields.specs.Quoted.{by_closing, closing, is_cut, quoted, unquoted}
 use Rattle.cm_files.specs.Spec.{part}
 
--- what stands between quotes ends no line and no row of one
+-- what is between quotes ends no line and no row of one
 abbrev is_inner : ℕ → Bool
 is_inner byte = not (is_cut byte)
 

@@ -89,7 +89,7 @@ date_plain run = by (date_of run) (run_is_date run) (date_is run)
     by (Ok value) is day_is = absurd is
     by (Err code) is day_is = tt
 
--- what stands after the opening quote
+-- what is after the opening quote
 closing_plain : (at size written : ℕ) (rest : List ℕ) → PlainIfAccept (by_closing at (closing size written rest))
 closing_plain at size written [] = tt
 closing_plain at size written (byte ∷ []) = cond_each (λ found. PlainIfAccept (by_closing at found)) (is_cut byte) _ _ tt tt

@@ -273,7 +273,7 @@ copies_means state line None to = tt
 copies_means state line (Some from) to =
     cond_both (is_token from.value) _ _ (MeansOne state) (λ token. on_means state commands.CopyTty to (λ place is. tt)) (λ files. between_means state commands.Copy (place_in line (Some from)) to (λ source target. tt))
 
--- the line that stands in a session
+-- the line that is in a session
 abbrev line_over : State → List ℕ → List FieldView → Line
 line_over state text fields = record { graph = exec_graph; catalogue = catalogue_of state; text = text; fields = fields }
 

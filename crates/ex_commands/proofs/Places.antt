@@ -1,4 +1,4 @@
--- The parts of a specification, and the same parts of the text that it stands in.
+-- The parts of a specification, and the same parts of the text that it is in.
 use Rattle.std.proofs.Common.{◌≡◌, ℕ, ◌+◌, ◌-◌, ◌<◌, ◌≤◌, ◌&&◌, ◌==◌, Bool, true, false, nat_lt, if◌then◌else◌, List, [], ◌∷◌, length, take, drop, Option, Some, None, option_map, option_and_then, slice_get, unwrap_or, Ok, refl, ap, sym, subst, ◌∙◌, arith, length-drop, length-append}
 use Rattle.std.specs.List.{list_all, prefix_len}
 use Rattle.std.proofs.lemmas.Bool.Decides.{nat_tests}

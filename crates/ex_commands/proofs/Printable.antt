@@ -155,7 +155,7 @@ may_ask c text fields ends plain parse = record {
       (λ field is. at_node c text fields ends NOTE_NODE _ note_node parse field is);
 }
 
--- no default stands where a rule is asked
+-- no default is where a rule is asked
 is_plain_function : Function → Bool
 is_plain_function (functions.Hook id) = false
 is_plain_function function = true

@@ -1,4 +1,4 @@
--- What stands after the keywords of some commands: by which blocks the fields of a role are read there.
+-- What is after the keywords of some commands: by which blocks the fields of a role are read there.
 -- A law of some verbs is a Branch of cm_state, an instance for each.
 use Rattle.std.proofs.Common.{◌≡◌, ℕ, ◌||◌, ◌==◌, Bool, true, not, List, Some, refl}
 use Rattle.cm_files.specs.Catalogue.{Catalogue}

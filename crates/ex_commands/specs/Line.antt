@@ -109,6 +109,6 @@ both from to = None
 abbrev pub between : (Place → Place → Command) → Option Place → Option Place → Command
 between command from to = on (λ files. command files.0 files.1) (both from to)
 
--- a comma stands at its end, so that subcommands follow
+-- a comma is at its end, so that subcommands follow
 abbrev pub has_subs : Line → Bool
 has_subs line = is_some (field_of roles.Sub line.fields)

@@ -31,7 +31,7 @@ directory_text directory = left_angle ++ directory ++ right_angle
 unfoldable pub full_text : FullName → List ℕ
 full_text full = directory_text full.key.directory ++ file_text full
 
--- what stands after what is done, ` [OK]`
+-- what is after what is done, ` [OK]`
 unfoldable pub done_text : List ℕ
 done_text = done_mark ++ end_of_line
 
@@ -101,7 +101,7 @@ line_of Changed row = changed_line row
 line_of (Listed days read) row = if is_within days row then listed_line read row else []
 line_of Held row = held_text row
 
--- the head of a listing, `   PS:<DIRECTORY>`, and how many files stand in it, ` Total of COUNT files`
+-- the head of a listing, `   PS:<DIRECTORY>`, and how many files are in it, ` Total of COUNT files`
 unfoldable pub heading : List ℕ → List ℕ
 heading directory = structure ++ directory_text directory ++ end_of_line
 

@@ -53,7 +53,7 @@ pages_freed = codes " [Pages freed: "
 unfoldable pub right_bracket : List ℕ
 right_bracket = codes "]"
 
--- what stands before the directory that INFORMATION tells about, its count of generations, and its pages
+-- what is before the directory that INFORMATION tells about, its count of generations, and its pages
 unfoldable pub of_structure : List ℕ
 of_structure = codes " PS:"
 

@@ -122,7 +122,7 @@ pub(crate) fn between<N: Names>(
     }
 }
 
-/// Whether a comma stands at the end of the line, so that subcommands follow.
+/// Whether a comma is at the end of the line, so that subcommands follow.
 pub(crate) fn has_subs(session: &Session) -> bool
     ensures { result ≡ is_some (field_of roles.Sub session.now.fields) }
 {

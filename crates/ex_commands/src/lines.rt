@@ -235,7 +235,7 @@ pub(crate) fn put_heading<S: Sink>(directory: &str, out: &mut Writer<'_, S>)
     out.put(end_of_line());
 }
 
-/// Puts how many files stand in a listing.
+/// Puts how many files are in a listing.
 #[tactic(auto, using(cm_io::proofs::Texts::texts), unfolding(crate::specs::Replies::total_line))]
 pub(crate) fn put_total<S: Sink>(count: u32, out: &mut Writer<'_, S>)
     ensures { Writes S.Sink out.old out.new (total_line count) }

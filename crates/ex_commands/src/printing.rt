@@ -23,7 +23,7 @@ fn printing_len(bytes: &[u8]) -> usize
     bytes.iter().take_while(|byte| is_printing(**byte)).count()
 }
 
-// Puts the first byte as it is shown, if there is one, and gives what stands after it.
+// Puts the first byte as it is shown, if there is one, and gives what is after it.
 fn put_first<'a, S: Sink>(bytes: &'a [u8], out: &mut Writer<'_, S>) -> &'a [u8]
     ensures rest { result.now ≡ drop 1 bytes.now }
     ensures written { Writes S.Sink out.old out.new (first_shown bytes.now) }

@@ -1,4 +1,4 @@
-// What stands after what is done is put.
+// What is after what is done is put.
 #![tactic(auto, using(cm_io::proofs::Texts::texts))]
 
 ghost use Rattle.cm_io.specs.Writer.{Writes};

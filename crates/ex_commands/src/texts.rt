@@ -114,7 +114,7 @@ pub(crate) fn version() -> &'static [u8]
     b" EXEC20 1"
 }
 
-/// What stands at the end of the run.
+/// What is at the end of the run.
 #[tactic(auto, unfolding(crate::specs::Texts::farewell))]
 pub(crate) fn farewell() -> &'static [u8]
     ensures { result.now ≡ farewell }

@@ -1,13 +1,13 @@
-// Cases are lines of a text, whose parts stand between bars.
+// Cases are lines of a text, whose parts are between bars.
 use std::alloc::{AllocError, Global};
 use std::process::Abort;
 
-// What stands before the first bar, and what stands after it.
+// What is before the first bar, and what is after it.
 pub(crate) fn cut(text: &str) -> (&str, &str) {
     text.split_once('|').unwrap_or((text, ""))
 }
 
-// What stands before the first space, and what stands after it.
+// What is before the first space, and what is after it.
 pub(crate) fn word(text: &str) -> (&str, &str) {
     text.split_once(' ').unwrap_or((text, ""))
 }

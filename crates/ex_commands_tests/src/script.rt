@@ -73,7 +73,7 @@ fn name_or_none(text: &str) -> Option<Name> {
     }
 }
 
-// The day after a sign, as a number, where it stands in the text.
+// The day after a sign, as a number, where it is in the text.
 fn day(text: &str, sign: &str) -> Option<i32> {
     let (_, rest) = text.split_once(sign)?;
     word(rest).0.parse().ok()
@@ -319,7 +319,7 @@ fn number_before<'a>(text: &'a str, sign: char, usual: u64) -> (u64, &'a str) {
 }
 
 // Does one line. It begins with the moment where that is not 0, as 86400:, and with the room of the screen where that
-// is scarce, as 13#. What is wanted stands after a bar: the answer, and after another bar what is shown.
+// is scarce, as 13#. What is wanted is after a bar: the answer, and after another bar what is shown.
 fn do_line(rt: &(impl Abort + AllocGlobal), store: &mut Store, line: &str) {
     let (line, wanted) = cut(line);
     let (moment, line) = number_before(line, ':', 0);

@@ -280,7 +280,7 @@ fn is_command(rt: &(impl Abort + AllocGlobal), command: &Command, wanted: &str) 
     assert_eq!(rt; text.as_str(), wanted);
 }
 
-// Types lines over a store: each is a case, with what it commands. Its subcommand lines stand after it, each after a
+// Types lines over a store: each is a case, with what it commands. Its subcommand lines are after it, each after a
 // tilde; the last of them has no field where the command is to wait no more. The counter wants the runtime itself.
 fn try_lines<L: Ledger, A: Abort + AllocGlobal>(
     rt: &A,

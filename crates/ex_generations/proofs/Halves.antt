@@ -47,7 +47,7 @@ found_at generation files at file place within is same =
         ltb-true _ _ (prefix_len_passes (is_lower generation) files k file (omega arith)) in
         ne_eqb _ _ (omega arith)
 
--- where no file of the generation stands at that place, there is none
+-- where no file of the generation is at that place, there is none
 pub none_at : (generation : ℕ) (files : List File) (at : ℕ) → IsAscending 0 files → at ≡ prefix_len (is_lower generation) files → ((d : File) → at < length files → (get_or files at d).generation ≡ generation → ⊥) → None ≡ position (is_generation generation) files
 none_at generation [] at a place other = refl
 none_at generation (first ∷ more) at a place other =

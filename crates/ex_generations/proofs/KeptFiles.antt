@@ -1,4 +1,4 @@
--- [retention] What stands in a list of files after a filter, and beside a file that is added.
+-- [retention] What is in a list of files after a filter, and beside a file that is added.
 use Rattle.std.proofs.Common.{◌≡◌, ℕ, ◌<◌, ◌≤◌, max, true, false, not, List, [], ◌∷◌, ◌++◌, filter, find, nat_lt, Contains, Some, unwrap_or, refl, ap, ◌⊎◌, inl, inr, arith}
 use Rattle.std.specs.Option.{option_map_or}
 use Rattle.std.proofs.lemmas.Bool.{eq-eqb, eqb-false, le-ltb, lt-ltb, ne_eqb, not-true, not_from_false, or_parts}

@@ -1,4 +1,4 @@
-// What stands in the way of a call.
+// What is in the way of a call.
 /// The highest generation is 131,071, and so no file can be added above it.
 #[derive(Clone, Copy, Debug, PartialEq, Eq)]
 pub struct GenFull;

@@ -70,7 +70,7 @@ impl Gens {
         &self.files
     }
 
-    /// Where the file of this generation stands in the ascending order; None where there is none. All that asks for a
+    /// Where the file of this generation is in the ascending order; None where there is none. All that asks for a
     /// generation looks for it so. How often a file is looked at is added to `probes`: at most as often as the number
     /// of files has binary digits, so 11 times for 1,024 of them.
     pub fn position(&self, generation: u32, probes: &mut u64) -> Option<usize>

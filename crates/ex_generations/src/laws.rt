@@ -29,7 +29,7 @@ pub fn the_next_generation_goes_last()
         → inserted file files ≡ files ++ file ∷ [] }
 {}
 
-/// A file that is added stands among the others, which stay as they were.
+/// A file that is added is among the others, which stay as they were.
 pub fn an_added_file_leaves_the_others()
     ensures { (file : File) → (files : List File) → IsAscending 0 files → has file.generation files ≡ false
         → (without file.generation (inserted file files) ≡ files)

@@ -60,7 +60,7 @@ type_blocks =
     ∷ guide (codes "OF FILES") 24
     ∷ []
 
--- 24 and 25: the files to list, and where DIRECTORY and BUILD end; a comma at either stands before subcommands
+-- 24 and 25: the files to list, and where DIRECTORY and BUILD end; a comma at either is before subcommands
 unfoldable pub listing_nodes : List Node
 listing_nodes =
     either_or comma (any_file wild_all Files 25) (codes "*.*.*")

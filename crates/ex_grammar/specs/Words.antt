@@ -2,12 +2,13 @@
 use Rattle.std.specs.Prelude.{ℕ, true, List, [], ◌∷◌, Some}
 use Rattle.cm_files.specs.declared.flags.Flags.{Flags}
 use Rattle.cm_blocks.specs.declared.function.Function.{Function}
-use Rattle.cm_blocks.specs.declared.function.Function.TheVariants.{Key, Switch, Noise, Token, User, Directory, InFile, OutFile, AnyFile, Text, Comma, Confirm, Hook}
+use Rattle.cm_blocks.specs.declared.function.Function.TheVariants.{Key, Switch, Token, User, Directory, InFile, OutFile, AnyFile, Text, Comma, Confirm, Hook}
 use Rattle.cm_blocks.specs.declared.function.Role.{Role}
 use Rattle.cm_blocks.specs.declared.function.Role.TheVariants as roles
 use Rattle.cm_blocks.specs.declared.node.Block.{Block}
 use Rattle.cm_blocks.specs.declared.node.Node.{Node}
 use Rattle.cm_blocks.specs.Words.{block, no_flags, node}
+pub use Rattle.cm_blocks.specs.Words.{guide, only}
 use Rattle.ex_grammar.specs.declared.node.TheConstants.{LINE_END}
 
 -- the end of the line
@@ -17,10 +18,6 @@ confirm = block Confirm roles.None LINE_END
 -- a keyword of this table
 abbrev pub keyword : ℕ → Role → Block
 keyword table role = block (Key table) role LINE_END
-
--- a guide word
-abbrev pub guide : List ℕ → ℕ → Block
-guide word next = block (Noise word) roles.None next
 
 abbrev pub token : List ℕ → ℕ → Block
 token sign next = block (Token sign) roles.None next
@@ -57,7 +54,7 @@ directory = block Directory roles.Files LINE_END
 abbrev pub new_directory : ℕ → Block
 new_directory next = record (block Directory roles.Files next) { flags = record no_flags { new = true } }
 
--- wildcards may stand in a file
+-- wildcards may be in a file
 abbrev pub wild : Flags
 wild = record no_flags { wild = true }
 
@@ -92,15 +89,11 @@ any_file flags role next = record (block AnyFile role next) { flags = flags }
 abbrev pub rest_of_line : Block
 rest_of_line = block Text roles.None LINE_END
 
--- a node of one block
-abbrev pub only : Block → Node
-only it = node (it ∷ [])
-
 -- a node of two blocks, tried in this order
 abbrev pub either : Block → Block → Node
 either first second = node (first ∷ second ∷ [])
 
--- a node of two blocks, for which this text stands where the line ends
+-- a node of two blocks, for which this text is where the line ends
 abbrev pub either_or : Block → Block → List ℕ → Node
 either_or first second text = record (either first second) { default = Some text }
 

@@ -65,7 +65,7 @@ pub fn these_are_the_codes_of_parts()
     ensures count { GENERATION_RETENTION_COUNT ≡ 1 }
 {}
 
-/// The numbers of the grammar: the nodes and tables that have a name, where TYPE stands in its table, and how many
+/// The numbers of the grammar: the nodes and tables that have a name, where TYPE is in its table, and how many
 /// generations a directory keeps at most.
 pub fn these_are_the_numbers()
     ensures commands { COMMANDS ≡ 0 }

@@ -1,6 +1,6 @@
 // The small words in which nodes are written, and the nodes that are named.
 ghost use Rattle.std.specs.Prelude.{◌≡◌, ◌≤◌, IfOk, length};
-ghost use Rattle.ex_grammar.specs.Words.{any_file, comma, confirm, directory, either, either_or, guide, hook, in_file, keyword, new_directory, only, out_file, remark, rest_of_line, source_token, switch, token, user, value, wild, wild_all, wild_deleted, wild_from_source, wild_generations};
+ghost use Rattle.ex_grammar.specs.Words.{any_file, comma, confirm, directory, either, either_or, hook, in_file, keyword, new_directory, only, out_file, remark, rest_of_line, source_token, switch, token, user, value, wild, wild_all, wild_deleted, wild_from_source, wild_generations};
 
 use cm_blocks::{Block, Function, Node, Role};
 use cm_files::Flags;
@@ -17,10 +17,10 @@ pub const DIRECTORY_SUBCOMMANDS: u16 = 46;
 /// The node where a subcommand of BUILD begins.
 pub const BUILD_SUBCOMMANDS: u16 = 48;
 
-// The node where only the end of the line may stand.
+// The node where only the end of the line may be.
 pub(crate) const LINE_END: u16 = 5;
 
-// The node where the switches of PRINT stand.
+// The node where the switches of PRINT are.
 pub(crate) const SWITCHES: u16 = 39;
 
 // The end of the line.
@@ -35,13 +35,6 @@ pub(crate) fn keyword(table: u16, role: Role) -> Block
     ensures { result ≡ keyword table role }
 {
     Block::new(Function::Key(table), role, LINE_END)
-}
-
-pub(crate) fn guide(word: &str, next: u16) -> Block
-    requires { length word.now ≤ NAME_LIMIT }
-    ensures { result ≡ guide word.now next }
-{
-    Block::new(Function::Noise(Name::new(word)), Role::None, next)
 }
 
 pub(crate) fn token(sign: &str, next: u16) -> Block
@@ -115,7 +108,7 @@ pub(crate) fn new_directory(next: u16) -> Block
     }
 }
 
-// Wildcards may stand in a file.
+// Wildcards may be in a file.
 pub(crate) fn wild() -> Flags
     ensures { result ≡ wild }
 {
@@ -215,7 +208,7 @@ pub(crate) fn either(alloc: Global, first: Block, second: Block) -> Result<Node,
     Ok(Node::new(vec![in alloc; first, second]?))
 }
 
-// A node of two blocks, for which this text stands where the line ends.
+// A node of two blocks, for which this text is where the line ends.
 pub(crate) fn either_or(
     alloc: Global,
     first: Block,

@@ -1,19 +1,18 @@
 // The nodes of the EXEC's grammar, by the numbers that the log gives.
 // A function for a group of the grammar gives a Vec<Block> of literals, in which only the last call may fail, and
-// push_each makes the nodes. vec![in alloc; node(alloc, ..)?, ..] with seven such calls takes minutes.
-ghost use Rattle.std.specs.Prelude.{◌≡◌, ◌++◌, IfOk, map};
+// push_nodes makes the nodes. vec![in alloc; node(alloc, ..)?, ..] with seven such calls takes minutes.
+ghost use Rattle.std.specs.Prelude.{◌≡◌, ◌++◌, IfOk};
 ghost use Rattle.ex_grammar.specs.Graph.{append_blocks, build_blocks, define_blocks, delete_blocks, directory_nodes, exec_nodes, first_nodes, last_nodes, listing_nodes, print_blocks, retention_nodes, set_blocks, source_nodes, switch_blocks, target_blocks, type_blocks};
-ghost use Rattle.ex_grammar.specs.Words.{only};
 
 use crate::node::{
-    LINE_END, SWITCHES, any_file, comma, confirm, directory, either, either_or, guide, hook,
-    in_file, keyword, new_directory, only, out_file, remark, source_token, switch, token, user,
-    value, wild, wild_all, wild_deleted, wild_from_source, wild_generations,
+    LINE_END, SWITCHES, any_file, comma, confirm, directory, either, either_or, hook, in_file,
+    keyword, new_directory, only, out_file, remark, source_token, switch, token, user, value, wild,
+    wild_all, wild_deleted, wild_from_source, wild_generations,
 };
 use crate::tables::{
     BUILD_TABLE, COMMAND_TABLE, DIRECTORY_TABLE, FILE_TABLE, SET_TABLE, SWITCH_TABLE, TOPIC_TABLE,
 };
-use cm_blocks::{Block, Function, Node, Role};
+use cm_blocks::{Block, Function, Node, Role, push_nodes};
 use cm_files::Flags;
 use cm_io::NoMemory;
 use std::alloc::Global;
@@ -23,11 +22,11 @@ pub(crate) fn nodes(alloc: Global) -> Result<Vec<Node>, NoMemory>
     ensures { IfOk result (λ nodes. nodes.items ≡ exec_nodes) }
 {
     let mut nodes = first_nodes(alloc)?;
-    push_each(&mut nodes, alloc, type_blocks(alloc)?)?;
+    push_nodes(&mut nodes, type_blocks(alloc)?, alloc)?;
     push_all(&mut nodes, listing_nodes(alloc)?)?;
-    push_each(&mut nodes, alloc, define_blocks(alloc)?)?;
+    push_nodes(&mut nodes, define_blocks(alloc)?, alloc)?;
     nodes.push(either(alloc, confirm(), directory())?)?;
-    push_each(&mut nodes, alloc, build_blocks(alloc)?)?;
+    push_nodes(&mut nodes, build_blocks(alloc)?, alloc)?;
     nodes.push(either(alloc, confirm(), directory())?)?;
     push_all(&mut nodes, last_nodes(alloc)?)?;
     Ok(nodes)
@@ -39,13 +38,13 @@ fn last_nodes(alloc: Global) -> Result<Vec<Node>, NoMemory>
     ensures { IfOk result (λ nodes. nodes.items ≡ last_nodes) }
 {
     let mut nodes = Vec::new(alloc);
-    push_each(&mut nodes, alloc, print_blocks(alloc)?)?;
+    push_nodes(&mut nodes, print_blocks(alloc)?, alloc)?;
     nodes.push(either(alloc, switch(SWITCH_TABLE), confirm())?)?;
-    push_each(&mut nodes, alloc, switch_blocks(alloc)?)?;
+    push_nodes(&mut nodes, switch_blocks(alloc)?, alloc)?;
     nodes.push(remark(alloc)?)?;
     push_all(&mut nodes, directory_nodes(alloc)?)?;
     push_all(&mut nodes, retention_nodes(alloc)?)?;
-    push_each(&mut nodes, alloc, set_blocks(alloc)?)?;
+    push_nodes(&mut nodes, set_blocks(alloc)?, alloc)?;
     Ok(nodes)
 }
 
@@ -55,9 +54,9 @@ fn first_nodes(alloc: Global) -> Result<Vec<Node>, NoMemory>
     ensures { IfOk result (λ nodes. nodes.items ≡ first_nodes) }
 {
     let mut nodes = source_nodes(alloc)?;
-    push_each(&mut nodes, alloc, target_blocks(alloc)?)?;
-    push_each(&mut nodes, alloc, append_blocks(alloc)?)?;
-    push_each(&mut nodes, alloc, delete_blocks(alloc)?)?;
+    push_nodes(&mut nodes, target_blocks(alloc)?, alloc)?;
+    push_nodes(&mut nodes, append_blocks(alloc)?, alloc)?;
+    push_nodes(&mut nodes, delete_blocks(alloc)?, alloc)?;
     nodes.push(either_or(alloc, user(), directory(), "<OPERATOR>")?)?;
     Ok(nodes)
 }
@@ -71,19 +70,9 @@ fn source_nodes(alloc: Global) -> Result<Vec<Node>, NoMemory>
     let file = in_file(wild(), Role::Source, 3);
     let mut nodes = Vec::new(alloc);
     nodes.push(either(alloc, confirm(), keyword(COMMAND_TABLE, Role::Verb))?)?;
-    nodes.push(only(alloc, guide("FROM", 2))?)?;
+    nodes.push(only(alloc, Block::guide("FROM", 2))?)?;
     nodes.push(either(alloc, terminal, file)?)?;
     Ok(nodes)
-}
-
-// Puts after the nodes, for each of these blocks, a node of it alone.
-fn push_each(nodes: &mut Vec<Node>, alloc: Global, blocks: Vec<Block>) -> Result<(), NoMemory>
-    ensures { IfOk result (λ _. nodes.new.items ≡ nodes.old.items ++ map only blocks.items) }
-{
-    for block in blocks {
-        nodes.push(only(alloc, block)?)?;
-    }
-    Ok(())
 }
 
 // Puts nodes after others.
@@ -102,7 +91,7 @@ fn target_blocks(alloc: Global) -> Result<Vec<Block>, NoMemory>
     ensures { IfOk result (λ blocks. blocks.items ≡ target_blocks) }
 {
     Ok(vec![in alloc;
-        guide("TO", 4),
+        Block::guide("TO", 4),
         out_file(wild_from_source(), LINE_END),
         confirm(),
     ]?)
@@ -114,13 +103,13 @@ fn append_blocks(alloc: Global) -> Result<Vec<Block>, NoMemory>
     ensures { IfOk result (λ blocks. blocks.items ≡ append_blocks) }
 {
     Ok(vec![in alloc;
-        guide("FROM", 7),
+        Block::guide("FROM", 7),
         in_file(wild(), Role::Source, 8),
-        guide("TO", 9),
+        Block::guide("TO", 9),
         any_file(Flags::default(), Role::Target, LINE_END),
-        guide("EXISTING FILE", 11),
+        Block::guide("EXISTING FILE", 11),
         in_file(wild(), Role::Source, 12),
-        guide("TO", 4),
+        Block::guide("TO", 4),
     ]?)
 }
 
@@ -130,11 +119,11 @@ fn delete_blocks(alloc: Global) -> Result<Vec<Block>, NoMemory>
     ensures { IfOk result (λ blocks. blocks.items ≡ delete_blocks) }
 {
     Ok(vec![in alloc;
-        guide("FILES", 14),
+        Block::guide("FILES", 14),
         in_file(wild_generations(), Role::Files, LINE_END),
-        guide("FILES", 16),
+        Block::guide("FILES", 16),
         in_file(wild_deleted(), Role::Files, LINE_END),
-        guide("TO DIRECTORY", 18),
+        Block::guide("TO DIRECTORY", 18),
     ]?)
 }
 
@@ -144,11 +133,11 @@ fn type_blocks(alloc: Global) -> Result<Vec<Block>, NoMemory>
     ensures { IfOk result (λ blocks. blocks.items ≡ type_blocks) }
 {
     Ok(vec![in alloc;
-        guide("FILES", 20),
+        Block::guide("FILES", 20),
         in_file(wild(), Role::Files, LINE_END),
-        guide("COMMANDS FROM", 22),
+        Block::guide("COMMANDS FROM", 22),
         in_file(Flags::default(), Role::Files, LINE_END),
-        guide("OF FILES", 24),
+        Block::guide("OF FILES", 24),
     ]?)
 }
 
@@ -170,12 +159,12 @@ fn define_blocks(alloc: Global) -> Result<Vec<Block>, NoMemory>
     ensures { IfOk result (λ blocks. blocks.items ≡ define_blocks) }
 {
     Ok(vec![in alloc;
-        guide("ABOUT", 27),
+        Block::guide("ABOUT", 27),
         keyword(TOPIC_TABLE, Role::What),
-        guide("LOGICAL NAME", 29),
+        Block::guide("LOGICAL NAME", 29),
         hook(0, 30),
         token(":", 31),
-        guide("AS", 32),
+        Block::guide("AS", 32),
     ]?)
 }
 
@@ -185,9 +174,9 @@ fn build_blocks(alloc: Global) -> Result<Vec<Block>, NoMemory>
     ensures { IfOk result (λ blocks. blocks.items ≡ build_blocks) }
 {
     Ok(vec![in alloc;
-        guide("DIRECTORY", 34),
+        Block::guide("DIRECTORY", 34),
         new_directory(25),
-        guide("DELETED FILES", 36),
+        Block::guide("DELETED FILES", 36),
     ]?)
 }
 
@@ -196,7 +185,10 @@ fn build_blocks(alloc: Global) -> Result<Vec<Block>, NoMemory>
 fn print_blocks(alloc: Global) -> Result<Vec<Block>, NoMemory>
     ensures { IfOk result (λ blocks. blocks.items ≡ print_blocks) }
 {
-    Ok(vec![in alloc; guide("FILES", 38), in_file(wild(), Role::Files, SWITCHES)]?)
+    Ok(vec![in alloc;
+        Block::guide("FILES", 38),
+        in_file(wild(), Role::Files, SWITCHES),
+    ]?)
 }
 
 // 40 to 44: the values of its switches, by their codes.
@@ -231,7 +223,7 @@ fn retention_nodes(alloc: Global) -> Result<Vec<Node>, NoMemory>
 {
     let mut nodes = Vec::new(alloc);
     nodes.push(either(alloc, confirm(), keyword(BUILD_TABLE, Role::Verb))?)?;
-    nodes.push(only(alloc, guide("TO KEEP", 50))?)?;
+    nodes.push(only(alloc, Block::guide("TO KEEP", 50))?)?;
     nodes.push(only(alloc, hook(2, LINE_END))?)?;
     Ok(nodes)
 }
@@ -244,9 +236,9 @@ fn set_blocks(alloc: Global) -> Result<Vec<Block>, NoMemory>
     Ok(vec![in alloc;
         keyword(SET_TABLE, Role::None),
         keyword(FILE_TABLE, Role::None),
-        guide("OF FILES", 54),
+        Block::guide("OF FILES", 54),
         in_file(wild_generations(), Role::Files, 55),
-        guide("TO", 56),
+        Block::guide("TO", 56),
         hook(2, LINE_END),
     ]?)
 }

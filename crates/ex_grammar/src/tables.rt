@@ -16,7 +16,7 @@ use std::alloc::Global;
 // The table of the commands.
 pub(crate) const COMMAND_TABLE: u16 = 0;
 
-// Where TYPE stands in the table of the commands.
+// Where TYPE is in the table of the commands.
 pub(crate) const TYPE_POSITION: u16 = 19;
 
 // The table of what INFORMATION tells about.

@@ -1,4 +1,4 @@
--- Lists that ascend, each element of which stands above the one before it.
+-- Lists that ascend, each element of which is above the one before it.
 use Rattle.std.proofs.Common.{◌≡◌, true, List, [], ◌∷◌, ◌++◌, refl, ap}
 use Rattle.std.specs.Ordering.{is_lt}
 use Rattle.std.specs.declared.cmp.Ordering.{Ordering}
@@ -15,7 +15,7 @@ ascends_more compare (y ∷ z ∷ xs) x ascend above =
     let both = and_parts _ _ ascend in
     and_from _ _ both.0 (ascends_more compare (z ∷ xs) x both.1 above)
 
--- each stands above those before it
+-- each is above those before it
 pub above_of : {X : Type 0} (compare : X → X → Ordering) (xs : List X) (x : X) (more : List X)
     → ascends compare (xs ++ x ∷ more) ≡ true → stands_above compare xs x ≡ true
 above_of compare [] x more ascend = refl

@@ -19,7 +19,7 @@ use Rattle.ex_image.proofs.Endings.{image_here, never_bad, one_bad, one_state, w
 use Rattle.ex_image.proofs.RecordLaws.{record_takes}
 use Rattle.ex_image.proofs.Stands.{IsConnected, Stands, faultless_of}
 
--- and with a record more that may stand there
+-- and with a record more that may be there
 pub drafted_more : (bytes : List ℕ) (reading : Reading) (rest : List ℕ) (entry : Entry) (content : List ℕ)
     → Makes bytes reading rest → MayStand reading (entry, content) → IsDraft (with_entry reading.state entry content)
 drafted_more bytes reading rest entry content made may =

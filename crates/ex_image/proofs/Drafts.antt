@@ -180,7 +180,7 @@ request_more state entry draft shape good =
       few_entries = push_within state.queue entry QUEUE_LIMIT good.room;
     }
 
--- with a record that may stand after it, a draft is one still
+-- with a record that may be after it, a draft is one still
 pub draft_more : (reading : Reading) (entry : Entry) (bytes : List ℕ) → IsDraft reading.state
     → Stands reading.last reading.state → MayStand reading (entry, bytes)
     → IsDraft (with_entry reading.state entry bytes)

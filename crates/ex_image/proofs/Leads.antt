@@ -1,4 +1,4 @@
--- Records one after the other, each of which may stand there.
+-- Records one after the other, each of which may be there.
 -- No loop over bytes looks at the draft: its invariant is Makes bytes reading rest.
 use Rattle.std.proofs.Common.{◌≡◌, ℕ, List, [], ◌∷◌, ◌++◌, Ok, refl, ap, subst, ◌∙◌}
 use Rattle.std.specs.List.{flat_map}

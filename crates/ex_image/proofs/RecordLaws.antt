@@ -1,4 +1,4 @@
--- A record: what is read of bytes is a record that may stand there, and such a record is read.
+-- A record: what is read of bytes is a record that may be there, and such a record is read.
 -- What an image is, and how it is read, meet in two laws about one record. A function of the reader ensures Gives view
 -- result (definition bytes); its caller, with ? for ◌>>=◌, closes by its own word.
 use Rattle.std.proofs.Common.{◌≡◌, ℕ, suc, ◌+◌, ◌<◌, ◌==◌, Bool, true, false, nat_le, cond, List, [], ◌∷◌, ◌++◌, length, take, drop, get_or, Option, Some, None, Result, Ok, Err, refl, ap, subst, sym, ◌∙◌, arith, add-one, append_assoc, length-append}
@@ -17,7 +17,7 @@ use Rattle.ex_image.proofs.EntryLaws.{IsEntry, entry_spelling}
 use Rattle.ex_image.proofs.FieldLaws.{is_inside}
 use Rattle.ex_image.proofs.Spellings.{IsSpelling, by_part, by_rest, done, part_again, steps_of}
 
--- an entry that may stand after a record, in an image of a version
+-- an entry that may be after a record, in an image of a version
 pub record IsPlaced (version : Version) (last : Tag) (entry : Entry) : Type 0 where
   pub is : IsEntry version entry
   pub place : may_follow last (tag_of entry) ≡ true
@@ -94,7 +94,7 @@ content_again bytes rest =
       drop-append-add bytes (10 ∷ rest) 1,
     ) refl
 
--- what stands after a line
+-- what is after a line
 nothing_takes : (bytes : List ℕ) (parts : List ℕ × List ℕ) → done ([], bytes) ≡ done parts
     → (bytes ≡ parts.1) × (parts.0 ≡ [])
 nothing_takes bytes parts is =
@@ -151,7 +151,7 @@ after_record reading bytes part is =
     let three = unless_takes (fault_of reading.state entry) ((entry, step.value.0), step.value.1) part step.then in
     read_of reading bytes line entry step.value part one placed two three
 
--- what is read may stand there
+-- what is read may be there
 pub record_takes : (reading : Reading) (bytes : List ℕ) (part : (Entry × List ℕ) × List ℕ)
     → record_at reading bytes ≡ Ok part → IsRead reading bytes part
 unfolding record_at
@@ -164,7 +164,7 @@ record_takes reading bytes part is =
     by true read after is = absurd (cc)
     by false read after is = after is
 
--- nothing may stand after an end
+-- nothing may be after an end
 not_ended : (last next : Tag) → may_follow last next ≡ true → is_ended last ≡ false
 not_ended tags.End next place = absurd (false≢true place)
 not_ended last next place = refl
@@ -180,7 +180,7 @@ again_after reading entry bytes rest stands =
       stands.faultless,
     ) refl
 
--- what may stand there is read
+-- what may be there is read
 pub record_again : (reading : Reading) (r : Entry × List ℕ) (rest : List ℕ) → MayStand reading r
     → record_at reading (record_text r ++ rest) ≡ Ok (r, rest)
 unfolding record_at

@@ -42,7 +42,7 @@ short_day_of (Some (pos n)) day =
     and_from _ _ both.0 (short_of n 47481 both.1 (omega arith))
 short_day_of (Some (negsuc n)) day = absurd (cc)
 
--- what stands before an element of a list that ascends
+-- what is before an element of a list that ascends
 above_there : {X : Type 0} (compare : X → X → Ordering) (all before : List X) (x : X) (more : List X)
     → all ≡ before ++ x ∷ more → ascends compare all ≡ true → stands_above compare before x ≡ true
 above_there compare all before x more same ascend =

@@ -1,6 +1,6 @@
 -- How many generations a file keeps, when it was written and when it was last read, in either version: what is read was
 -- written, and what is written is read.
--- The version stands in the entry and in the reading, so what is said of records (Leads, Makes, IsRun) knows none.
+-- The version is in the entry and in the reading, so what is said of records (Leads, Makes, IsRun) knows none.
 -- Where versions differ lemmas go by cases.
 use Rattle.std.proofs.Common.{◌≡◌, ℕ, ◌==◌, ◌^◌, true, not, ◌&&◌, List, ◌∷◌, ◌++◌, Option, None, Result, Ok, refl, ap, subst, sym, ◌∙◌, append_assoc, arith}
 use Rattle.std.specs.Fmt.{decimal}

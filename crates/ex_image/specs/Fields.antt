@@ -25,7 +25,7 @@ Err kind >>= next = Err kind
 abbrev pub formed : {A : Type 0} → (A → Bool) → A → Result A Kind
 formed test value = if test value then Ok value else Err Form
 
--- what stands before the first such byte, and what follows it
+-- what is before the first such byte, and what follows it
 unfoldable pub cut : ℕ → Kind → List ℕ → Result (List ℕ × List ℕ) Kind
 cut byte kind bytes =
     if list_any (λ b. b == byte) bytes then Ok (before_first (λ b. b == byte) bytes, after_first (λ b. b == byte) bytes)

@@ -70,7 +70,7 @@ abbrev pub IsWrittenIn : Version → Entry → Type 0
 IsWrittenIn version (File written row size) = written ≡ version
 IsWrittenIn version entry = Unit {0}
 
--- a record may stand after those that were read
+-- a record may be after those that were read
 pub record MayStand (reading : Reading) (next : Entry × List ℕ) : Type 0 where
   pub shape : is_shaped next.0 ≡ true
   pub written : IsWrittenIn reading.version next.0
@@ -78,7 +78,7 @@ pub record MayStand (reading : Reading) (next : Entry × List ℕ) : Type 0 wher
   pub content : HasContent next.0 next.1
   pub faultless : fault_of reading.state next.0 ≡ None
 
--- each of these records may stand after those before it
+-- each of these records may be after those before it
 abbrev pub Leads : Reading → List (Entry × List ℕ) → Reading → Type 0
 Leads from [] to = to ≡ from
 Leads from (next ∷ more) to = MayStand from next × Leads (with_record from next) more to

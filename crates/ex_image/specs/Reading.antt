@@ -84,13 +84,13 @@ is_there state (File version row size) = has_directory row.key.directory state.d
 is_there state (Request entry) = has_directory entry.file.key.directory state.directories
 is_there state End = true
 
--- the last of these, where there is one, stands below
+-- the last of these, where there is one, is below
 abbrev pub stands_above : {X : Type 0} → (X → X → Ordering) → List X → X → Bool
 stands_above compare [] x = true
 stands_above compare (y ∷ []) x = is_lt (compare y x)
 stands_above compare (y ∷ z ∷ more) x = stands_above compare (z ∷ more) x
 
--- it stands above the one of its kind before it
+-- it is above the one of its kind before it
 abbrev pub is_above : State → Entry → Bool
 is_above state (Head version) = true
 is_above state (Directory name retention) =
@@ -114,7 +114,7 @@ has_room state (File version row size) =
 has_room state (Request entry) = nat_lt (length state.queue) QUEUE_LIMIT
 has_room state End = true
 
--- the first of these four faults that a record has which may stand here by its form
+-- the first of these four faults that a record has which may be here by its form
 unfoldable pub fault_of : State → Entry → Option Kind
 fault_of state entry =
     if not (is_in_range entry) then Some Range
@@ -155,7 +155,7 @@ is_ended tags.File = false
 is_ended tags.Request = false
 is_ended tags.End = true
 
--- a line that may stand here
+-- a line that may be here
 unfoldable pub standing : Version → Tag → List ℕ → Result Entry Kind
 standing version last line = entry_of version line >>= λ entry. formed (λ entry. may_follow last (tag_of entry)) entry
 

@@ -79,11 +79,11 @@ line_text (Request entry) =
     ∷ form_text entry.form ∷ after_text entry.after ∷ entry.job ∷ entry.note ∷ [])
 line_text End = codes "E"
 
--- what stands after the line: the bytes of a file and a line feed
+-- what is after the line: the bytes of a file and a line feed
 abbrev pub content_text : Entry → List ℕ → List ℕ
 content_text (File version row size) bytes = bytes ++ 10 ∷ []
 content_text entry bytes = []
 
--- the text of a record: its line, a line feed, and what stands after it
+-- the text of a record: its line, a line feed, and what is after it
 abbrev pub record_text : Entry × List ℕ → List ℕ
 record_text (entry, bytes) = line_text entry ++ 10 ∷ content_text entry bytes

@@ -13,7 +13,7 @@ use crate::fields::{
 };
 use crate::version::Version;
 
-// What stands before the next space, and what follows it.
+// What is before the next space, and what follows it.
 fn field(bytes: &[u8]) -> Result<(&[u8], &[u8]), Kind>
     ensures { Gives (λ x. (x.0.now, x.1.now)) result (cut 32 Form bytes.now) }
 {

@@ -7,7 +7,7 @@ use cm_io::{Kind, NoMemory};
 pub enum ImageFault {
     /// They are no image.
     Bad {
-        /// Where the first wrong record begins: how many bytes stand before it.
+        /// Where the first wrong record begins: how many bytes are before it.
         at: u32,
         /// The kind of its fault.
         kind: Kind,

@@ -1,4 +1,4 @@
-// What is wrong with a record that may stand where it does by its form.
+// What is wrong with a record that may be where it is by its form.
 ghost use Rattle.std.specs.Prelude.{◌≡◌, ◌≤◌, ℕ, List, pos, option_map};
 ghost use Rattle.std.specs.Ordering.{is_lt, on};
 ghost use Rattle.cm_files.specs.Catalogue.{by_bytes};
@@ -93,7 +93,7 @@ fn is_there(parts: &Parts<'_>, entry: &Entry<'_>) -> bool
     }
 }
 
-// Whether a name stands above the last directory.
+// Whether a name is above the last directory.
 fn is_directory_above(parts: &Parts<'_>, name: &str) -> bool
     ensures { (retention : ℕ)
         → result ≡ stands_above (on (λ directory. directory.name) by_bytes) parts.now.directories
@@ -108,7 +108,7 @@ fn is_directory_above(parts: &Parts<'_>, name: &str) -> bool
     }
 }
 
-// Whether a name stands above the last logical name.
+// Whether a name is above the last logical name.
 fn is_logical_above(parts: &Parts<'_>, name: &str) -> bool
     ensures { (directory : List ℕ) → result ≡ stands_above (on (λ entry. entry.name) by_bytes) parts.now.logical
         (record { name = name.now; directory = directory }) }
@@ -122,7 +122,7 @@ fn is_logical_above(parts: &Parts<'_>, name: &str) -> bool
     }
 }
 
-// Whether a row stands below a file.
+// Whether a row is below a file.
 fn is_below(row: RowView<'_>, it: &FileEntry<'_>) -> bool
     ensures { result ≡ is_lt (by_row (row_of_view row.entry) (row_said it.now)) }
 {
@@ -133,7 +133,7 @@ fn is_below(row: RowView<'_>, it: &FileEntry<'_>) -> bool
     directory.then(name.then(kind)).then(generation).is_lt()
 }
 
-// Whether a file stands above the last one.
+// Whether a file is above the last one.
 fn is_file_above(parts: &Parts<'_>, it: &FileEntry<'_>) -> bool
     ensures { result ≡ stands_above by_row parts.now.rows (row_said it.now) }
 {
@@ -143,7 +143,7 @@ fn is_file_above(parts: &Parts<'_>, it: &FileEntry<'_>) -> bool
     }
 }
 
-// Whether it stands above the one of its kind before it.
+// Whether it is above the one of its kind before it.
 fn is_above(parts: &Parts<'_>, entry: &Entry<'_>) -> bool
     ensures { result ≡ is_above parts.now (entry_said entry.now) }
 {
@@ -175,7 +175,7 @@ fn has_room(parts: &Parts<'_>, bytes: usize, entry: &Entry<'_>) -> bool
     }
 }
 
-/// The first fault of a record that may stand here by its form, after those that made these parts, whose files have
+/// The first fault of a record that may be here by its form, after those that made these parts, whose files have
 /// so many bytes.
 #[tactic(auto, unfolding(crate::specs::Reading::fault_of))]
 pub(crate) fn fault_of(parts: &Parts<'_>, bytes: usize, entry: &Entry<'_>) -> Option<Kind>

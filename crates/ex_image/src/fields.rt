@@ -12,7 +12,7 @@ use crate::names::{is_directory_name, is_file_name, is_file_type, is_logical, is
 use cm_fields::{NUMBER_LIMIT, are_digits, value_of};
 use ex_store::form_text;
 
-// How many bytes stand before the first such byte.
+// How many bytes are before the first such byte.
 fn part_size(bytes: &[u8], byte: u8) -> usize
     ensures value { result ≡ position_or_len (λ b. b == byte) bytes.now }
     ensures within { result ≤ length bytes.now }
@@ -20,7 +20,7 @@ fn part_size(bytes: &[u8], byte: u8) -> usize
     bytes.iter().take_while(|b| **b != byte).count()
 }
 
-/// What stands before the first such byte, and what follows it.
+/// What is before the first such byte, and what follows it.
 #[tactic(auto, unfolding(crate::specs::Fields::cut))]
 pub(crate) fn cut(bytes: &[u8], byte: u8, kind: Kind) -> Result<(&[u8], &[u8]), Kind>
     ensures { Gives (λ x. (x.0.now, x.1.now)) result (cut byte kind bytes.now) }
@@ -100,7 +100,7 @@ pub(crate) fn type_of(bytes: &[u8]) -> Result<&str, Kind>
     formed(bytes, is_file_type(bytes))
 }
 
-/// What stands beside an entry of the print queue.
+/// What is beside an entry of the print queue.
 #[tactic(auto, using(crate::proofs::ReaderTexts::note_is_ascii))]
 pub(crate) fn note_of(bytes: &[u8]) -> Result<&str, Kind>
     ensures { Gives (λ x. x.now) result (note_of bytes.now) }

@@ -69,7 +69,7 @@ pub fn an_image_is_small()
     ensures { (bytes : List ℕ) → (state : State) → IsImage bytes state → length bytes < 16777216 }
 {}
 
-/// No image begins another: nothing may stand after an image.
+/// No image begins another: nothing may be after an image.
 pub fn no_image_begins_another()
     ensures { (bytes more : List ℕ) → (state other : State)
         → IsImage bytes state → IsImage (bytes ++ more) other → more ≡ [] }

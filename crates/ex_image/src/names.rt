@@ -18,7 +18,7 @@ fn is_upper_name(name: &[u8]) -> bool
         .all(|byte| is_name(*byte) && !byte.is_ascii_lowercase())
 }
 
-// Whether this may stand between the points of a directory's name.
+// Whether this may be between the points of a directory's name.
 fn is_part(part: &[u8]) -> bool
     ensures { result ≡ nat_lt 0 (length part.now) && is_upper_name part.now }
 {
@@ -66,7 +66,7 @@ fn are_text(note: &[u8]) -> bool
     note.iter().all(|byte| is_text(*byte))
 }
 
-/// Whether this may stand beside an entry of the print queue.
+/// Whether this may be beside an entry of the print queue.
 pub(crate) fn is_note(note: &[u8]) -> bool
     ensures { result ≡ is_note note.now }
 {

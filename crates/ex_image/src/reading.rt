@@ -51,7 +51,7 @@ impl Model for Reading {
     ghost invariant = { λ it. it.bytes ≡ total it.draft.rows };
 }
 
-// A line that may stand after a record of an image of this version.
+// A line that may be after a record of an image of this version.
 #[tactic(auto, unfolding(crate::specs::Reading::standing))]
 fn standing(version: Version, last: Tag, line: &[u8]) -> Result<Entry<'_>, Kind>
     ensures { Gives entry_said result (standing version last line.now) }

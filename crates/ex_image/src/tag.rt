@@ -31,7 +31,7 @@ impl Tag {
         self == Tag::End
     }
 
-    /// Whether a record of another kind may stand after one of this kind.
+    /// Whether a record of another kind may be after one of this kind.
     pub(crate) fn may_precede(self, next: Tag) -> bool
         ensures { result ≡ may_follow self next }
     {

@@ -1,4 +1,4 @@
-// What stands in the file where the host fails.
+// What is in the file where the host fails.
 
 use crate::cases::{halves, is_told};
 use crate::given::{IMAGE, NEW_IMAGE, store, written};
@@ -7,7 +7,7 @@ use ex_store::Store;
 use std::alloc::{AllocError, Global};
 use std::process::Abort;
 
-// How many bytes of an image stand in a file, or why none do.
+// How many bytes of an image are in a file, or why none are.
 fn put_part(told: &mut String, file: Option<&[u8]>) -> Result<(), AllocError> {
     let Some(bytes) = file else {
         return told.push_str(" none");
@@ -23,7 +23,7 @@ fn put_part(told: &mut String, file: Option<&[u8]>) -> Result<(), AllocError> {
     })
 }
 
-// What comes of writing a store where a call fails, and what then stands in OUT and in IN.
+// What comes of writing a store where a call fails, and what then is in OUT and in IN.
 fn told(alloc: Global, store: &Store, file: &str, call: u32) -> Result<String, NoMemory> {
     let (put, host) = written(alloc, store, file, 104, &[call])?;
     let mut told = format!(in alloc; "{put:?}")?;

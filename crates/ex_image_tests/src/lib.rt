@@ -1,4 +1,4 @@
-//! Tests of images: what is written of a store, what stands where the host fails, and where bytes go wrong.
+//! Tests of images: what is written of a store, what is where the host fails, and where bytes go wrong.
 #![tactic(auto)]
 
 #[cfg(test)]

@@ -64,7 +64,7 @@ fn every_kind_of_record_comes_back(rt: HostRuntime) -> Result<(), Fail> {
     Ok(())
 }
 
-// Whether a store is written where there is room for just its image, which then stands in OUT, and IN stays.
+// Whether a store is written where there is room for just its image, which then is in OUT, and IN stays.
 fn is_written(alloc: Global, store: &Store, image: &[u8]) -> Result<bool, Fail> {
     let room = image.len().min(200) as u32;
     let (put, host) = written(alloc, store, "IN", room, &[])?;

@@ -1,4 +1,4 @@
--- What stands after a generated run, and after one over keys.
+-- What is after a generated run, and after one over keys.
 use Rattle.std.proofs.Common.{◌≡◌, ℕ, Option, None, Some, refl, subst}
 use Rattle.cm_io.specs.Contents.{Contents}
 use Rattle.cm_io.specs.declared.status.Status.{Status}

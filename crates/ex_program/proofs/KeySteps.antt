@@ -53,7 +53,7 @@ use Rattle.ex_program.proofs.LineKeys.{Edits, Ends, Is, Where, Fresh, Begun, Far
 use Rattle.ex_commands.proofs.TypedEnds.{writes_at}
 use Rattle.ex_program.proofs.MemoryKeys.{no_lines, of_line, of_raw}
 
--- how the run stands before a key
+-- how the run is before a key
 pub record Holds (w : Where) (at : RunState ExecState) : Type 0 where
   pub quiet : IsQuiet at.state
   pub on : at.state.interpreter.ended ≡ false

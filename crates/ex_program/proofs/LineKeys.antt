@@ -25,7 +25,7 @@ pub data Where : Type 0 where
   Ell : Where
   Lined : Where
 
--- where a key leads, if it may stand there
+-- where a key leads, if it may be there
 abbrev pub begins_by : ℕ → Option Where
 begins_by key =
     if is_letter key then Some Begun

@@ -1,4 +1,4 @@
--- What stands at the end of a run.
+-- What is at the end of a run.
 use Rattle.std.specs.Prelude.{◌≡◌, ◌++◌, ℕ, Option, Some, None}
 use Rattle.cm_io.specs.Contents.{Contents}
 use Rattle.cm_io.specs.declared.status.Status.{Status}
@@ -27,7 +27,7 @@ abbrev pub StandsApart : Option ℕ → Scene → Scene → Status → Type 0
 StandsApart None a b result = (result ≡ status.Usage) × Shown a b (usage ++ end_of_line)
 StandsApart (Some lines) a b result = Generated lines a b result
 
--- what stands at the end, by whether keys and clock tell
+-- what is at the end, by whether keys and clock tell
 abbrev pub Stands : Telling → Option Form → Option ℕ → Scene → Scene → Disk → Disk → Status → Type 0
 Stands known None lines a b before now result = StandsApart lines a b result × (now ≡ before)
 Stands known (Some form) lines a b before now result = StandsBy known exec_over form a b before now result

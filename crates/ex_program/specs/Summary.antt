@@ -44,7 +44,7 @@ pub record IsCutForMemory (lines before now : ℕ) : Type 0 where
 abbrev pub LacksMemory : ℕ → ℕ → ℕ → Type 0
 LacksMemory lines before now = (now ≡ before) ⊎ IsCutForMemory lines before now
 
--- what stands before each figure
+-- what is before each figure
 unfoldable pub before_lines : List ℕ
 before_lines = codes "lines "
 

@@ -1,4 +1,4 @@
-// What stands before each figure of a summary.
+// What is before each figure of a summary.
 ghost use Rattle.std.specs.Prelude.{◌≡◌};
 ghost use Rattle.ex_program.specs.Summary.{before_generations, before_keys, before_lines, before_refused, before_shown};
 

@@ -41,7 +41,7 @@ fn name_file(start: &str, file: u64, end: &str) -> ArrayString<LINE_ROOM>
     line
 }
 
-// What stands before the file, before the position and after it, where a file is typed in.
+// What is before the file, before the position and after it, where a file is typed in.
 #[tactic(auto, unfolding(crate::specs::GeneratedKeys::copy_start))]
 fn copy_start() -> &'static str
     ensures bytes { result.now ≡ copy_start }

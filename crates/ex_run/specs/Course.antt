@@ -68,7 +68,7 @@ module _ {S : Type 0} where
     pub ran : Ran known o form start left a b result
     pub saves : Saves loaded now form.out (o.store_of left) result
 
-  -- what stands at the end of what was asked for so
+  -- what is at the end of what was asked for so
   abbrev pub StandsBy : Telling → Over S → Form → Scene → Scene → Disk → Disk → Status → Type 0
   StandsBy known o form a b before now result =
       (IsEarly form.input result × Refused a b result × IsLoaded form.input before now)

@@ -1,5 +1,5 @@
 // A run over a store, from image to image.
-// A call of run stands alone in a function generic over the application (run_application) that hands on one record
+// A call of run is alone in a function generic over the application (run_application) that hands on one record
 // (Runs): at the application itself each clause is stated unfolded.
 ghost use Rattle.std.specs.Prelude.{◌≡◌};
 ghost use Rattle.cm_run.specs.Trace.{is_ended};
@@ -25,7 +25,7 @@ pub const KEY_LIMIT: u64 = 16_777_216;
 
 /// How an application is run over a store: how a run of it begins, and what store it has, of which the image is written
 /// at the end. It is implemented by a unit type of the program's own crate, since the application and this trait may
-/// both stand in others; no value of that type is made.
+/// both are in others; no value of that type is made.
 pub trait Program<A: Application> {
     ghost use Rattle.std.specs.Prelude.{◌≡◌, IfOk};
     ghost use Rattle.cm_run.specs.Keeping.{IsLineKeeping};

@@ -29,7 +29,7 @@ use Rattle.ex_store.proofs.BuiltLaws.{by_directory_total}
 pub named : (name : List ℕ) (directory : Directory) → is_named name directory ≡ true → directory.name ≡ name
 named name directory is = (bytes_eq-Decides directory.name name).0 is
 
--- a directory that stands below others, and the name of one of them
+-- a directory that is below others, and the name of one of them
 pub below_name : (directory : Directory) (directories : List Directory) (name : List ℕ)
     → all_above by_directory directory directories ≡ true → has_directory name directories ≡ true
     → by_bytes directory.name name ≡ Less

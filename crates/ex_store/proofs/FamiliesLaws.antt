@@ -36,7 +36,7 @@ use Rattle.ex_store.proofs.FamilyLaws.{files_of_under, key_is}
 pub by_name_total : IsTotalOrder by_family
 by_name_total = on_total (λ (family : Family). family.key) by_key_total
 
--- where families stand beside a key
+-- where families are beside a key
 abbrev pub key_place : Key → Family → Ordering
 key_place key family = by_key family.key key
 
@@ -57,7 +57,7 @@ is_at key [] i within there = absurd (omega arith)
 is_at key (family ∷ families) zero within there = there family
 is_at key (family ∷ families) (suc i) within there = is_at key families i (omega arith) there
 
--- rows that stand below a key, and above it
+-- rows that are below a key, and above it
 abbrev is_below : Key → Row → Bool
 is_below key row = is_lt (by_key row.key key)
 

@@ -28,7 +28,7 @@ use Rattle.cm_lists.proofs.Ascents.{ascends_sorted}
 use Rattle.ex_store.proofs.AreRowsLaws.{all_added, by_key_total, full_parts}
 use Rattle.ex_store.proofs.FilesOfLaws.{files_added}
 
--- keys that stand at one place are one
+-- keys that are at one place are one
 is_equal : (o : Ordering) → is_eq o ≡ true → o ≡ Equal
 is_equal Less is = absurd (cc)
 is_equal Equal is = refl

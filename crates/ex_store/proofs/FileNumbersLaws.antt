@@ -131,7 +131,7 @@ pub ends_fall : (families : List Family) (bound : ℕ) → IsCounted 0 families 
 ends_fall families bound is i j d low within below =
     lt-ltb _ _ (omega (arith, ends_rise 0 families i j d is low within, ltb-true _ _ below))
 
--- the family that a row stands under
+-- the family that a row is under
 pub record StandsUnder (families : List Family) (before i n : ℕ) : Type 0 where
   pub within : n < length families
   pub from : before + length (rows_of (take n families)) ≤ i
@@ -181,7 +181,7 @@ stands_under before (family ∷ families) i is low within =
               ∙ ap (λ (m : ℕ). slice_get (rows_under family) (i - m)) (sym start);
         }
 
--- how many rows stand before those of a directory
+-- how many rows are before those of a directory
 pub directories_rise : (directory : List ℕ) (families : List Family) → ascends by_family families ≡ true
     → rises (λ family. by_bytes family.key.directory directory) families ≡ true
 directories_rise directory families ascend =

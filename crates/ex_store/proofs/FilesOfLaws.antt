@@ -202,7 +202,7 @@ others_retained retention key own rows apart = by (retention == 0)
     by true = refl
     by false = others_kept retention key own rows apart
 
--- what is added stands among its own generations alone
+-- what is added is among its own generations alone
 pub files_apart : (retention : ℕ) (row : Row) (rows : List Row) (key : Key) → is_of key row ≡ false
     → files_of key (added retention row rows) ≡ files_of key rows
 files_apart retention row rows key apart =

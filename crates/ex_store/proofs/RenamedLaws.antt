@@ -77,7 +77,7 @@ taken directories to rows source are form here =
       };
     }
 
--- the walk over the sources of a renaming, which stand in one directory
+-- the walk over the sources of a renaming, which are in one directory
 pub record IsRenaming (directories : List Directory) (from : List ℕ) (to : Place) (rows whole left : List Row)
     (done : List RowChange) (pairs : List NamePair) (simulated : List Row) : Type 0 where
   pub on : IsUnderWay (renamed to) directories from to.directory rows whole left done pairs simulated

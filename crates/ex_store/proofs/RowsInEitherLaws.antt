@@ -68,7 +68,7 @@ without_filter keep full (row ∷ rows) all =
     by false true is stays here rest = rw (is, stays) (ap (λ more. row ∷ more) rest)
     by false false is stays here rest = rw stays rest
 
--- a row goes in front of those that do not stand below it
+-- a row goes in front of those that are not below it
 inserted_first : (row : Row) (rows : List Row) → list_all (λ other. not (is_lt (by_row other row))) rows ≡ true
     → inserted row rows ≡ row ∷ rows
 inserted_first row [] all = refl

@@ -1,4 +1,4 @@
--- The rows of one directory stand together.
+-- The rows of one directory are together.
 -- The rows of a directory, key or name are the middle of three parts (rises_sorted and parts_of of cm_lists).
 use Rattle.std.proofs.Common.{◌≡◌, ℕ, zero, suc, ◌+◌, ◌<◌, ◌≤◌, Bool, true, false, not, ◌||◌, ◌==◌, cond, List, [], ◌∷◌, ◌++◌, length, map, slice_get, Some, None, Option, option_map, refl, ap, arith, ◌∙◌, sym, subst}
 use Rattle.std.specs.List.{list_all}
@@ -80,7 +80,7 @@ pub directories_rise : (directory : List ℕ) (rows : List Row) → ascends by_r
     → rises (λ row. by_bytes row.key.directory directory) rows ≡ true
 directories_rise directory rows ascend = sorted_rises directory rows (sorted_ascends by_row by_row_total rows ascend)
 
--- the rows of a directory stand together
+-- the rows of a directory are together
 pub block : (directory : List ℕ) (rows : List Row) → ascends by_row rows ≡ true
     → Parts (is_in directory) rows (rows_in directory rows) (first_in directory rows) (end_in directory rows)
 block directory rows ascend = parts_of (λ row. by_bytes row.key.directory directory) rows (directories_rise directory rows ascend)

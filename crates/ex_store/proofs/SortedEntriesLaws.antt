@@ -49,14 +49,14 @@ module _ {V : Type 0} where
   pub by_key_total : IsTotalOrder by_key
   by_key_total = on_texts (λ (entry : List ℕ × V). entry.0)
 
-  -- the value of a name that is there is another; or the name stands at its place with it
+  -- the value of a name that is there is another; or the name is at its place with it
   abbrev pub entries_with : List ℕ → V → List (List ℕ × V) → List (List ℕ × V)
   entries_with name value entries =
       cond (list_any (λ entry. bytes_eq entry.0 name) entries)
       (map (λ entry. cond (bytes_eq entry.0 name) (entry.0, value) entry) entries)
       (insertion by_key (name, value) entries)
 
-  -- what stands after the others is under a new name
+  -- what is after the others is under a new name
   last_is_new : (name : List ℕ) (value : V) (entries : List (List ℕ × V))
       → is_sorted by_key (entries ++ (name, value) ∷ []) ≡ true → lookup (bytes_eq name) entries ≡ None
   last_is_new name value [] sorted = refl
@@ -89,7 +89,7 @@ module _ {V : Type 0} where
       let parts = and_parts _ _ sorted in
       (apart_from_all entry entries parts.0, are_distinct entries parts.1)
 
-  -- and none stands below the one before it
+  -- and none is below the one before it
   keys_sorted : (entries : List (List ℕ × V)) → is_sorted by_key entries ≡ true → IsSorted by_bytes (keys_of entries)
   keys_sorted entries sorted = λ k d low high. next entries sorted k d high
     where

@@ -56,7 +56,7 @@ pub selected_in : (deleted : Bool) (place : Place) (state : State) (row : Row) �
 unfolding is_selected_by
 selected_in deleted place state row is = (and_parts _ _ is).0
 
--- all rows that a place selects stand in its directory
+-- all rows that a place selects are in its directory
 pub all_selected_in : (deleted : Bool) (place : Place) (state : State) (rows : List Row)
     → list_all (is_in place.directory) (filter (is_selected_by deleted place state) rows) ≡ true
 all_selected_in deleted place state rows =
@@ -170,7 +170,7 @@ found_none {X} test at (x ∷ xs) is first = by (test x) is (λ later. found_non
     by true is rest = absurd (cc)
     by false is rest = rest is
 
--- the walk that collects the positions of what passes, of a list that stands after so many others
+-- the walk that collects the positions of what passes, of a list that is after so many others
 pub record Collects {X : Type 0} (test : X → Bool) (first : ℕ) (xs : List X) (items : List ℕ) (from : ℕ) : Type 0 where
   pub walk : items ++ positions_from test (first + from) (drop from xs) ≡ positions_from test first xs
   pub few : length items ≤ from

@@ -14,7 +14,7 @@ use Rattle.ex_store.specs.State.{has_directory, is_named}
 abbrev pub by_directory : Directory → Directory → Ordering
 by_directory = on (λ directory. directory.name) by_bytes
 
--- the directory of its name keeps as many generations; or it stands at its place, where there is none of its name
+-- the directory of its name keeps as many generations; or it is at its place, where there is none of its name
 abbrev pub with_directory : Directory → List Directory → List Directory
 with_directory new directories =
     if has_directory new.name directories

@@ -20,7 +20,7 @@ by_definition = on (λ entry. entry.name) by_bytes
 abbrev pub redirection : Definition → Definition → Definition
 redirection new entry = if equals entry.name new.name then record entry { directory = new.directory } else entry
 
--- the logical name that is there is redirected; or a new one stands at its place
+-- the logical name that is there is redirected; or a new one is at its place
 abbrev pub with_definition : Definition → List Definition → List Definition
 with_definition new logical =
     if has_definition new.name logical

@@ -8,7 +8,7 @@ use Rattle.ex_store.specs.declared.row.Row.{Row}
 use Rattle.ex_store.specs.Rows.{with_remark}
 use Rattle.ex_store.specs.State.{State, retention_of}
 
--- nothing; the empty name, which no directory has, stands where none is connected yet
+-- nothing; the empty name, which no directory has, is where none is connected yet
 abbrev pub empty_state : State
 empty_state = record { directories = []; connected = []; logical = []; rows = []; queue = [] }
 

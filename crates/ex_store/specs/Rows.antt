@@ -56,7 +56,7 @@ abbrev pub without : FullName → List Row → List Row
 without full [] = []
 without full (row ∷ more) = if is_full full row then more else row ∷ without full more
 
--- the row at its place: after those that stand below it
+-- the row at its place: after those that are below it
 abbrev pub inserted : Row → List Row → List Row
 inserted row [] = row ∷ []
 inserted row (other ∷ more) = if is_lt (by_row other row) then other ∷ inserted row more else row ∷ other ∷ more
@@ -124,7 +124,7 @@ rows_in_either first second rows = filter (is_in_either first second) rows
 abbrev pub pages_in : List ℕ → List Row → ℕ
 pages_in directory rows = pages (map (λ row. row.file) (rows_in directory rows))
 
--- how many rows stand before those of a directory, and before those after it
+-- how many rows are before those of a directory, and before those after it
 abbrev pub first_in : List ℕ → List Row → ℕ
 first_in directory rows = prefix_len (λ row. is_lt (by_bytes row.key.directory directory)) rows
 
@@ -147,7 +147,7 @@ blank row = record row { file = generations.blank row.file }
 abbrev pub is_short : Row → Bool
 is_short row = nat_le (length row.file.bytes) FILE_LIMIT
 
--- the rows without the marked ones of a directory, and the pages that those have
+-- [expunge] the rows without the marked ones of a directory, and the pages that those have
 abbrev pub expunged : List ℕ → List Row → List Row
 expunged directory rows = filter (λ row. not (is_in directory row && row.file.deleted)) rows
 

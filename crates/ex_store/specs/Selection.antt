@@ -68,7 +68,7 @@ IsNumber name state found =
     MatchOption found (rows_in name state.rows ≡ [])
     (λ number. (has_directory name state.directories ≡ true) × (number ≡ number_of name state.directories))
 
--- a walk over the rows of the directory of this name, which stands at one of them or after the last
+-- a walk over the rows of the directory of this name, which is at one of them or after the last
 pub record IsWalk (name : List ℕ) (state : State) (found : Option ℕ) (from : ℕ) : Type 0 where
   pub number : IsNumber name state found
   pub few : from ≤ ROW_LIMIT

@@ -54,7 +54,7 @@ is_named name directory = bytes_eq directory.name name
 abbrev pub has_directory : List ℕ → List Directory → Bool
 has_directory name directories = list_any (is_named name) directories
 
--- the number of a directory: how many stand before it
+-- the number of a directory: how many are before it
 abbrev pub number_of : List ℕ → List Directory → ℕ
 number_of name directories = prefix_len (λ directory. not (is_named name directory)) directories
 
@@ -73,11 +73,11 @@ file_row directories row =
       deleted = row.file.deleted;
     }
 
--- [expunge] the rows of the directory with a number
+-- the rows of the directory with a number
 abbrev pub rows_numbered : ℕ → State → List Row
 rows_numbered directory state = filter (λ row. number_of row.key.directory state.directories == directory) state.rows
 
--- how many rows stand before those of each directory
+-- how many rows are before those of each directory
 abbrev pub firsts_in : List Directory → List Row → List ℕ
 firsts_in directories rows = map (λ directory. first_in directory.name rows) directories
 

@@ -98,7 +98,7 @@ pub record IsWellFormed (state : State) : Type 0 where
   pub draft : IsDraft state
   pub connected_there : has_directory state.connected state.directories ≡ true
 
--- a well-formed state, with how many rows stand before those of each of its directories
+-- a well-formed state, with how many rows are before those of each of its directories
 pub record IsStore (state : State) (firsts : List ℕ) : Type 0 where
   pub well : IsWellFormed state
   pub places : firsts ≡ firsts_in state.directories state.rows

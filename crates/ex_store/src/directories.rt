@@ -97,14 +97,14 @@ impl Directories {
         self.retentions.get_index_of(&short(name)?)
     }
 
-    // How many directories stand before the one of this name; the number of all where there is none.
+    // How many directories are before the one of this name; the number of all where there is none.
     pub(crate) fn number_of(&self, name: &str) -> usize
         ensures { result ≡ number_of name.now self.now.list }
     {
         self.find(name).unwrap_or(self.len())
     }
 
-    // Adds a directory after those that stand below it.
+    // Adds a directory after those that are below it.
     pub(crate) fn push(&mut self, new: Directory) -> Result<(), NoMemory>
         requires { ascends by_directory (self.old.list ++ new ∷ []) ≡ true }
         ensures added { OnOk result (self.new.list ≡ self.old.list ++ new ∷ []) }

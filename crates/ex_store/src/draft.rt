@@ -27,7 +27,7 @@ fn keep_by(directories: &Directories, files: &mut Files)
 }
 
 /// A store under way. It is filled part by part, those of each kind in their order, and then is done. Contracts see it
-/// as a state; the empty name stands where no directory is connected yet.
+/// as a state; the empty name is where no directory is connected yet.
 #[derive(Drop)]
 pub struct Draft {
     alloc: Global,

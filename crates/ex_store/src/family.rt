@@ -210,7 +210,7 @@ impl FamilyBox {
     }
 }
 
-// How many families stand before the place of this one. How often a family is asked is added to `probes`.
+// How many families are before the place of this one. How often a family is asked is added to `probes`.
 fn place(families: &[FamilyBox], key: &Key, probes: &mut u64) -> usize
     requires { ascends by_family families.now ≡ true }
     ensures place { result ≡ prefix_len (λ family. is_lt (by_key family.key key.now)) families.now }

@@ -93,7 +93,7 @@ pub(crate) fn len(families: &[FamilyBox]) -> usize
     files_before(families, families.len())
 }
 
-// How many files stand before those of a directory.
+// How many files are before those of a directory.
 pub(crate) fn first_of(families: &[FamilyBox], directory: &[u8]) -> usize
     requires families { ascends by_family families.now ≡ true }
     requires counted { IsCounted 0 families.now }
@@ -108,7 +108,7 @@ pub(crate) fn first_of(families: &[FamilyBox], directory: &[u8]) -> usize
     files_before(families, n)
 }
 
-// The family that the file with this number stands under, and which of its files it is. How often a family is asked is
+// The family that the file with this number is under, and which of its files it is. How often a family is asked is
 // added to `probes`.
 fn place_of(families: &[FamilyBox], i: usize, probes: &mut u64) -> (usize, usize)
     requires counted { IsCounted 0 families.now }

@@ -86,7 +86,7 @@ impl Files {
         row_at(&self.families, i, probes)
     }
 
-    // How many files stand before those of a directory.
+    // How many files are before those of a directory.
     pub(crate) fn first_of(&self, directory: &[u8]) -> usize
         ensures { result ≡ first_in directory.now self.now.rows }
     {

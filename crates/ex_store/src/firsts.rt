@@ -9,7 +9,7 @@ use crate::files::Files;
 use crate::limits::DIRECTORY_LIMIT;
 use arrayvec::ArrayVec;
 
-// How many files stand before those of the directory with this number.
+// How many files are before those of the directory with this number.
 fn first_at(directories: &Directories, files: &Files, i: usize) -> u16
     requires directory { i < length directories.now.list }
     requires few { length files.now.rows ≤ ROW_LIMIT }
@@ -19,7 +19,7 @@ fn first_at(directories: &Directories, files: &Files, i: usize) -> u16
     files.first_of(directories.at(i).name.as_bytes()) as u16
 }
 
-// How many files stand before those of each directory.
+// How many files are before those of each directory.
 pub(crate) fn firsts_in(directories: &Directories, files: &Files) -> ArrayVec<u16, DIRECTORY_LIMIT>
     requires directories { length directories.now.list ≤ DIRECTORY_LIMIT }
     requires rows { length files.now.rows ≤ ROW_LIMIT }

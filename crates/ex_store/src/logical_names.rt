@@ -105,7 +105,7 @@ impl LogicalNames {
         self.find(name).is_some()
     }
 
-    // Adds a logical name after those that stand below it.
+    // Adds a logical name after those that are below it.
     pub(crate) fn push(&mut self, new: Definition) -> Result<(), NoMemory>
         requires ascend { ascends by_definition (self.old.list ++ new ∷ []) ≡ true }
         requires kept { is_kept new ≡ true }

@@ -10,7 +10,7 @@ use cm_files::Names;
 use ex_generations::File;
 
 impl Store {
-    // How many rows stand before those of the directory with this number.
+    // How many rows are before those of the directory with this number.
     fn first_at(&self, directory: u16) -> usize
         requires { directory < length self.now.state.directories }
         ensures { option_map (λ directory. first_in directory.name self.now.state.rows)
@@ -19,7 +19,7 @@ impl Store {
         usize::from(self.firsts[usize::from(directory)])
     }
 
-    // How many rows stand before those after the directory with this number: where those of the next one begin.
+    // How many rows are before those after the directory with this number: where those of the next one begin.
     fn end_at(&self, directory: u16) -> usize
         requires { directory < length self.now.state.directories }
         ensures { option_map (λ directory. end_in directory.name self.now.state.rows)

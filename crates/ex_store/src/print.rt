@@ -30,7 +30,7 @@ pub struct Request {
     pub after: Option<i32>,
     /// The name of the job, in upper case; each file's own name where none is given.
     pub job: Option<Name>,
-    /// What is to stand beside the files; may be empty.
+    /// What is to be beside the files; may be empty.
     pub note: Name,
 }
 

@@ -21,7 +21,7 @@ pub struct QueueEntry {
     pub after: Option<i32>,
     /// The name of the job.
     pub job: Name,
-    /// What is to stand beside it; may be empty.
+    /// What is to be beside it; may be empty.
     pub note: Name,
 }
 
@@ -44,7 +44,7 @@ pub struct Queued<'a> {
     pub after: Option<i32>,
     /// The name of the job.
     pub job: &'a str,
-    /// What is to stand beside it; may be empty.
+    /// What is to be beside it; may be empty.
     pub note: &'a str,
 }
 

@@ -95,7 +95,7 @@ impl Simulation {
     }
 }
 
-// The sources at these places, which stand in one directory, are given other names, one after the other. This touches
+// The sources at these places, which are in one directory, are given other names, one after the other. This touches
 // the rows of that directory and of the target's.
 fn renames(
     alloc: Global,

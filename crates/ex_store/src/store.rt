@@ -26,7 +26,7 @@ pub struct Store {
     pub(crate) connected: Name,
     pub(crate) logical: LogicalNames,
     pub(crate) files: Files,
-    // How many files stand before those of each directory.
+    // How many files are before those of each directory.
     pub(crate) firsts: ArrayVec<u16, DIRECTORY_LIMIT>,
     pub(crate) queue: Vec<QueueEntry>,
 }

@@ -8,7 +8,7 @@ pub(crate) fn halves<'a>(rt: &impl Abort, case: &'a str) -> (&'a str, &'a str) {
     case.split_once(" -> ").expect(rt, "an arrow")
 }
 
-/// The first word, and what stands after it.
+/// The first word, and what is after it.
 pub(crate) fn first_word(text: &str) -> (&str, &str) {
     match text.split_once(' ') {
         Some(parts) => parts,

@@ -11,7 +11,7 @@ use cm_io::{Host, Sink, Status};
 use ex_store::Store;
 
 /// Writes the image of a store to a file, and shows the message of the status that it ends with. Where that has none
-/// the screen is left as it is: what the program shows of its own then stands after the save.
+/// the screen is left as it is: what the program shows of its own then is after the save.
 pub fn finish<H: Host, S: Sink>(
     status: Status,
     store: &Store,

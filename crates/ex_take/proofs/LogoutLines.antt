@@ -138,7 +138,7 @@ pending_on at session pending waits =
           ∙ sub_goes (unwaiting at).interpreter (lines.more at session pending waits).moment (lines.more at session pending waits).command
           (lines.takes at session pending waits) is
 
--- a line that ends the run, and stands where no command waits
+-- a line that ends the run, and is where no command waits
 module _ (at : ExecState) (session : SessionState) (moment : ℕ) (waits : Waits at.interpreter.pending) (on : ended_of at ≡ false) where
   pub line_logout : ended_of (left_by at (line_effects at session moment)) ≡ true
       → (at.interpreter.pending ≡ None) × (command_at at.interpreter session ≡ commands.Logout)

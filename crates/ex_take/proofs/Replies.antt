@@ -22,7 +22,7 @@ part_shows S MemoryCut = omega arith
 part_shows S LimitCut = omega arith
 
 module _ {S : Type 0} where
-  -- two places of one list: the first of them stands before the second, or is it, or stands after it
+  -- two places of one list: the first of them is before the second, or is it, or is after it
   data Places (first second : List (Event S)) (one other : Event S) : Type 0 where
     Before : (more : List (Event S)) → first ++ one ∷ more ≡ second → Places first second one other
     Same : first ≡ second → one ≡ other → Places first second one other

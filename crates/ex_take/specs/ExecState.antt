@@ -17,6 +17,6 @@ pub record ExecState : Type 0 where
 abbrev pub exec_start : State → ExecState
 exec_start state = record { interpreter = interpreter_start state; files = []; taken = 0; refused = 0; stop = None }
 
--- why the last files were closed is forgotten
+-- [error-flag] why the last files were closed is forgotten
 abbrev pub forgiven : ExecState → ExecState
 forgiven at = record at { stop = None }

@@ -1,4 +1,4 @@
--- How the EXEC stands between two keys.
+-- How the EXEC is between two keys.
 use Rattle.std.specs.Prelude.{◌≡◌, true, false, [], Option, None, Some}
 use Rattle.ex_commands.specs.Command.{is_pending}
 use Rattle.ex_take.specs.ExecState.{ExecState}

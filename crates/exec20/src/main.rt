@@ -19,7 +19,7 @@ fn main(rt: HostRuntime) -> ExitCode {
     let mut keys = StdSource::new(&rt);
     let mut screen = StdSink::new(&rt);
     let mut log = StdLog::new(&rt);
-    let mut clock = StdClock::new(&rt);
+    let mut clock = StdClock { rt };
     let status = run::<StdHost, StdSource, StdSink, StdLog, StdClock, Brand>(
         &rt,
         Blank::new(1),

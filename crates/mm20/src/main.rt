@@ -18,7 +18,7 @@ fn main(rt: HostRuntime) -> ExitCode {
     let mut host = StdHost::new(&rt);
     let mut keys = StdSource::new(&rt);
     let mut screen = StdSink::new(&rt);
-    let mut clock = StdClock::new(&rt);
+    let mut clock = StdClock { rt };
     let status = run::<StdHost, StdSource, StdSink, StdClock, Brand>(
         &rt,
         Blank::new(1),

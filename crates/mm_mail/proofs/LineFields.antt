@@ -26,7 +26,7 @@ use Rattle.cm_blocks.specs.FieldView.{FieldView}
 use Rattle.cm_blocks.specs.Parse.{IsParse}
 use Rattle.cm_blocks.specs.Setting.{Setting, setting}
 use Rattle.cm_blocks.specs.Trial.{trial}
-use Rattle.cm_blocks.specs.Words.{block, node}
+use Rattle.cm_blocks.specs.Words.{block, confirm, node}
 use Rattle.cm_blocks.proofs.Places.{run_of, user_says}
 use Rattle.cm_state.specs.Roles.{field_of}
 use Rattle.cm_state.specs.SessionState.{SessionState, text_of}
@@ -36,7 +36,7 @@ use Rattle.ex_commands.specs.Line.{keyword_code}
 use Rattle.ex_commands.proofs.Resolutions.{state_has, user_within}
 use Rattle.ex_store.specs.State.{State, catalogue_of}
 use Rattle.mm_mail.specs.Command.{MayAct, by_verb, command_of, named, number_by, on, receiver_by, subject_in}
-use Rattle.mm_mail.specs.Graph.{blocks, command_entries, confirm, mail_graph, mail_nodes}
+use Rattle.mm_mail.specs.Graph.{blocks, command_entries, mail_graph, mail_nodes}
 use Rattle.mm_mail.specs.MailRules.{mail_meanings, mail_verdict}
 use Rattle.mm_mail.specs.declared.command.Command.{Command}
 use Rattle.mm_mail.specs.declared.command.Command.TheVariants as commands
@@ -47,9 +47,9 @@ use Rattle.mm_mail.specs.declared.message_name.TheConstants.{MOST_MESSAGES}
 begins : Begins mail_graph COMMANDS 0
 unfolding mail_graph mail_nodes blocks command_entries table_fault
 begins = record {
-  end = confirm;
+  end = confirm LINE_END;
   keyword = block (functions.Key 0) roles.Verb LINE_END;
-  node = node (confirm ∷ block (functions.Key 0) roles.Verb LINE_END ∷ []);
+  node = node (confirm LINE_END ∷ block (functions.Key 0) roles.Verb LINE_END ∷ []);
   node_is = refl;
   chain_is = refl;
   end_function = refl;

@@ -1,20 +1,14 @@
 -- The grammar of mail: nodes, each a chain of blocks, and the keyword table that they name.
-use Rattle.std.specs.Prelude.{ℕ, List, [], ◌∷◌, codes, map}
+use Rattle.std.specs.Prelude.{List, [], ◌∷◌, ◌++◌, codes, map}
 use Rattle.cm_tables.specs.declared.entry.Entry.{Entry}
 use Rattle.cm_tables.specs.Words.{entry}
-use Rattle.cm_blocks.specs.declared.function.Function.TheVariants.{Confirm, Hook, Key, Noise, Quoted, User}
+use Rattle.cm_blocks.specs.declared.function.Function.TheVariants.{Hook, Key, Quoted, User}
 use Rattle.cm_blocks.specs.declared.function.Role.TheVariants as roles
 use Rattle.cm_blocks.specs.declared.node.Block.{Block}
 use Rattle.cm_blocks.specs.declared.node.Node.{Node}
 use Rattle.cm_blocks.specs.Grammar.{Graph}
-use Rattle.cm_blocks.specs.Words.{block, node}
+use Rattle.cm_blocks.specs.Words.{block, confirm, guide, node, only}
 use Rattle.mm_mail.specs.declared.grammar.TheConstants.{DELETE, HEADERS, LINE_END, MESSAGE, QUIT, READ, RECEIVER, SEND}
-
-abbrev pub confirm : Block
-confirm = block Confirm roles.None LINE_END
-
-abbrev pub guide : List ℕ → ℕ → Block
-guide word next = block (Noise word) roles.None next
 
 -- nodes 1 to 7, of one block each: the number of a message; a receiver; the end of a line; and a subject
 unfoldable pub blocks : List Block
@@ -23,7 +17,7 @@ blocks =
     ∷ block (Hook 0) roles.Value LINE_END
     ∷ guide (codes "TO") 4
     ∷ block User roles.Files 6
-    ∷ confirm
+    ∷ confirm LINE_END
     ∷ guide (codes "ABOUT") 7
     ∷ block Quoted roles.Value LINE_END
     ∷ []
@@ -31,7 +25,7 @@ blocks =
 -- at node 0 a line begins, with nothing or a command
 unfoldable pub mail_nodes : List Node
 mail_nodes =
-    node (confirm ∷ block (Key 0) roles.Verb LINE_END ∷ []) ∷ map (λ (it : Block). node (it ∷ [])) blocks
+    (node (confirm LINE_END ∷ block (Key 0) roles.Verb LINE_END ∷ []) ∷ []) ++ map only blocks
 
 -- the commands, each with the node after it
 unfoldable pub command_entries : List Entry

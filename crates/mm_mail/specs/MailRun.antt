@@ -28,7 +28,7 @@ abbrev pub run_shown : State → List ℕ → List ℕ → List ℕ
 run_shown start moments keys =
     screen_bytes (mail_trace start moments keys) ++ closing (mail_left start moments keys).ended
 
--- what stands at the end, by whether keys and clock tell
+-- what is at the end, by whether keys and clock tell
 abbrev pub Stands : Telling → Option Form → Scene → Scene → Disk → Disk → Status → Type 0
 Stands known None a b before now result =
     (result ≡ status.Usage) × Shown a b (usage ++ end_of_line) × (now ≡ before)

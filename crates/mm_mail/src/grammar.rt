@@ -1,12 +1,10 @@
 // The grammar of mail.
-ghost use Rattle.std.specs.Prelude.{◌≡◌, ◌≤◌, IfOk, length};
-ghost use Rattle.cm_text.specs.declared.name.TheConstants.{NAME_LIMIT};
-ghost use Rattle.mm_mail.specs.Graph.{blocks, command_entries, confirm, guide, mail_graph, mail_nodes};
+ghost use Rattle.std.specs.Prelude.{◌≡◌, IfOk};
+ghost use Rattle.mm_mail.specs.Graph.{blocks, command_entries, mail_graph, mail_nodes};
 
-use cm_blocks::{Block, Function, Grammar, Node, Role};
+use cm_blocks::{Block, Function, Grammar, Node, Role, push_nodes};
 use cm_io::NoMemory;
 use cm_tables::{Entry, Table};
-use cm_text::Name;
 use std::alloc::Global;
 
 // The codes of the commands.
@@ -59,11 +57,9 @@ fn nodes(alloc: Global) -> Result<Vec<Node>, NoMemory>
     ensures { IfOk result (λ nodes. nodes.items ≡ mail_nodes) }
 {
     let command = Block::new(Function::Key(0), Role::Verb, LINE_END);
-    let mut nodes = Vec::new(alloc);
-    nodes.push(Node::new(vec![in alloc; confirm(), command]?))?;
-    for block in blocks(alloc)? {
-        nodes.push(Node::new(vec![in alloc; block]?))?;
-    }
+    let first = Node::new(vec![in alloc; Block::confirm(LINE_END), command]?);
+    let mut nodes = vec![in alloc; first]?;
+    push_nodes(&mut nodes, blocks(alloc)?, alloc)?;
     Ok(nodes)
 }
 
@@ -73,25 +69,12 @@ fn blocks(alloc: Global) -> Result<Vec<Block>, NoMemory>
     ensures { IfOk result (λ items. items.items ≡ blocks) }
 {
     Ok(vec![in alloc;
-        guide("MESSAGE", 2),
+        Block::guide("MESSAGE", 2),
         Block::new(Function::Hook(0), Role::Value, LINE_END),
-        guide("TO", 4),
+        Block::guide("TO", 4),
         Block::new(Function::User, Role::Files, 6),
-        confirm(),
-        guide("ABOUT", 7),
+        Block::confirm(LINE_END),
+        Block::guide("ABOUT", 7),
         Block::new(Function::Quoted, Role::Value, LINE_END),
     ]?)
-}
-
-fn confirm() -> Block
-    ensures { result ≡ confirm }
-{
-    Block::new(Function::Confirm, Role::None, LINE_END)
-}
-
-fn guide(word: &str, next: u16) -> Block
-    requires { length word.now ≤ NAME_LIMIT }
-    ensures { result ≡ guide word.now next }
-{
-    Block::new(Function::Noise(Name::new(word)), Role::None, next)
 }

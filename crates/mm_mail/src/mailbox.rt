@@ -65,7 +65,7 @@ fn space() -> &'static [u8]
     b" "
 }
 
-// How many bytes stand before the first CR or LF.
+// How many bytes are before the first CR or LF.
 fn line_length(bytes: &[u8]) -> usize
     ensures size { result ≡ prefix_len is_rest bytes.now }
     ensures within { result ≤ length bytes.now }
@@ -135,7 +135,7 @@ pub(crate) fn put_message<S: Sink>(store: &Store, number: u64, out: &mut Writer<
     }
 }
 
-// What stands before the number of a message that is deleted.
+// What is before the number of a message that is deleted.
 #[tactic(auto, unfolding(crate::specs::Mailbox::deleted))]
 fn deleted() -> &'static [u8]
     ensures { result.now ≡ deleted }

@@ -56,7 +56,7 @@ pub(crate) fn message_name(number: u64) -> Name
     name
 }
 
-/// What stands after the beginning of such a name.
+/// What is after the beginning of such a name.
 pub(crate) fn digits_of(name: &[u8]) -> &[u8]
     ensures { result.now ≡ digits_of name.now }
 {

@@ -12,7 +12,7 @@ fn main(rt: HostRuntime) -> ExitCode {
     let words = given_words(&rt);
     let mut host = StdHost::new(&rt);
     let mut screen = StdSink::new(&rt);
-    let mut clock = StdClock::new(&rt);
+    let mut clock = StdClock { rt };
     let status = spool20(rt.alloc(), &words, &mut host, &mut screen, &mut clock);
     ExitCode::from(status.number())
 }

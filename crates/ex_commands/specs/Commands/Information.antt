@@ -52,7 +52,7 @@ after_text (Some day) = after_mark ++ day_text day
 unfoldable pub quoted_byte : ℕ → List ℕ
 quoted_byte byte = if byte == 34 then 34 ∷ 34 ∷ [] else byte ∷ []
 
--- what stands beside it, ` /NOTE:"TEXT"`, where there is something
+-- what is beside it, ` /NOTE:"TEXT"`, where there is something
 unfoldable pub note_text : List ℕ → List ℕ
 note_text note = if length note == 0 then [] else note_mark ++ flat_map quoted_byte note ++ quote
 

@@ -37,7 +37,7 @@ fn touch(rt: &impl Abort, gens: &mut Gens, generation: u32, moment: &str) -> Res
     gens.touch(generation, moment.parse().expect(rt, "a moment"))
 }
 
-// Adds an empty file, and marks it where a minus stands after its generation.
+// Adds an empty file, and marks it where a minus is after its generation.
 fn add_marked(rt: &(impl Abort + AllocGlobal), gens: &mut Gens, text: &str) {
     let generation = text
         .trim_end_matches('-')

@@ -4,7 +4,7 @@ use Rattle.std.specs.Option.{option_map_or}
 use Rattle.ex_commands.specs.Replies.{ends_line}
 use Rattle.ex_commands.proofs.lines.ends_line.Goals as goal
 
--- the last element of a list stands at its last place
+-- the last element of a list is at its last place
 last_at : {X : Type 0} (other : Option X) (first : X) (more : List X)
     → last_or other (first ∷ more) ≡ slice_get (first ∷ more) (length more)
 last_at other first [] = refl

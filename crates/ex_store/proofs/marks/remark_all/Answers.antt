@@ -7,7 +7,7 @@ use Rattle.ex_store.specs.Rows.{with_remark}
 use Rattle.ex_store.proofs.RemarkLaws.{changed_more}
 use Rattle.ex_store.proofs.marks.remark_all.Goals as goal
 
--- stands where a place is past the end, which none is
+-- is where a place is past the end, which none is
 no_row : Row
 no_row = record {
   key = record { directory = []; name = []; kind = [] };
