@@ -2,6 +2,7 @@
 import errno
 import os
 import select
+import signal
 import stat
 
 from keys import Keys
@@ -52,17 +53,23 @@ def ask(question):
             return False, b""
         typed += sent
     screen = os.open(os.ttyname(KEYBOARD), os.O_WRONLY | os.O_NOCTTY)
+    woken, waker = os.pipe2(os.O_NONBLOCK | os.O_CLOEXEC)
+    signal.set_wakeup_fd(waker)
     os.write(screen, question.encode(errors="surrogateescape"))
-    line, rest = answer(screen)
+    line, rest = answer(screen, woken)
+    signal.set_wakeup_fd(-1)
     os.write(screen, b"\r\n")
-    os.close(screen)
+    for file in (screen, woken, waker):
+        os.close(file)
     return line.strip().lower() in (b"y", b"yes"), typed + rest
 
 
-def answer(screen):
-    """A line that is typed, nothing where it is given up, and what was sent after it."""
+def answer(screen, woken):
+    """A line that is typed, nothing where it is given up, and what was sent after it. A signal makes `woken` readable,
+    so that one that comes just before the wait ends it too."""
     keys, line = Keys(), b""
     while True:
+        select.select([KEYBOARD, woken], [], [])
         sent = read_some()
         if not sent:
             return b"", b""
