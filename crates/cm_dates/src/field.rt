@@ -8,6 +8,7 @@ ghost use Rattle.std.specs.List.{after_first, before_first, list_all, position_o
 ghost use Rattle.std.specs.Str.Parse.{digits_value};
 ghost use Rattle.cm_dates.specs.Date.{date, date_of, day_in, is_hyphen, is_number, year_of};
 
+use crate::calendar::day_of;
 use crate::months::month_of;
 use cm_fields::{Code, Try, Value, are_digits, said, value_of, word_run};
 use cm_text::TEXT_LIMIT;
@@ -116,7 +117,7 @@ fn day_in(year: u16, month: u8, day: u16) -> Result<Value, Code>
         return Err(Code::YearRange);
     }
     match civil::Date::new(year as i16, month as i8, day as i8) {
-        Ok(date) => Ok(Value::Date(date.to_plain().to_unix_epoch_day())),
+        Ok(date) => Ok(Value::Date(day_of(date))),
         Err(_) => Err(Code::BadDate),
     }
 }

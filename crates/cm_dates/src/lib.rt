@@ -1,6 +1,7 @@
 //! Dates: the date field of COMND, and the text that a day is shown as.
 #![tactic(auto)]
 
+mod calendar;
 mod field;
 pub mod laws;
 mod months;

@@ -3,13 +3,12 @@
 ghost use Rattle.std.specs.Prelude.{◌≡◌, ◌≤◌, pos};
 ghost use Rattle.std.specs.Int.{IsInRange};
 ghost use Rattle.jiff_core.specs.Calendar.{IsBetween};
-ghost use Rattle.jiff_core.specs.Date.{epoch_day};
 ghost use Rattle.cm_dates.specs.DayText.{IsDayText, date_text, day_text};
 
+use crate::calendar::date_of;
 use crate::months::month_name;
 use arrayvec::ArrayString;
 use cm_text::decimal_digits;
-use jiff_core::civil;
 
 /// The last day that a date field can have, 31-DEC-2099.
 pub const DAY_LIMIT: i32 = 47_481;
@@ -24,20 +23,8 @@ pub fn day_text(day: i32) -> ArrayString<DAY_TEXT_LIMIT>
     ensures date { IsDayText day result.bytes }
     ensures text { result.bytes ≡ day_text day }
 {
-    let date = date_of_day(day);
-    date_text(date.year as u16, date.month, date.day)
-}
-
-// The date of a day.
-fn date_of_day(day: i32) -> civil::Date
-    requires { IsBetween (pos 0) DAY_LIMIT day }
-    ensures day { epoch_day result ≡ day }
-    ensures year { IsBetween (pos 1970) (pos 2099) result.year }
-{
-    match civil::Date::from_unix_epoch_day(i64::from(day)) {
-        Ok(date) => date,
-        Err(_) => unreachable!(),
-    }
+    let date = date_of(day);
+    date_text(date.year() as u16, date.month() as u8, date.day() as u8)
 }
 
 // The text of a date.

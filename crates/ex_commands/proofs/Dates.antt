@@ -5,9 +5,7 @@ use Rattle.std.specs.List.{after_first, before_first}
 use Rattle.std.specs.Str.Parse.{digits_value}
 use Rattle.std.proofs.lemmas.Bool.{cond_both, or_parts}
 use Rattle.std.proofs.lemmas.Bool.Decides.{nat_tests}
-use Rattle.jiff_core.specs.Calendar.{IsBetween, IsCivilDate, day_count, days_from_civil, days_in_month}
-use Rattle.jiff_core.proofs.CalendarLemmas.{day_count-last_of_year, day_count-lt_year, days_from_civil-day_count}
-use Rattle.jiff_core.proofs.MarchLemmas.{day_count-early}
+use Rattle.jiff_core.specs.Calendar.{IsBetween, days_from_civil, days_in_month}
 use Rattle.jiff_core.proofs.SignedLemmas.{signed_arith}
 use Rattle.cm_text.specs.Case.{equals}
 use Rattle.cm_fields.specs.declared.code.Code.{Code}
@@ -15,26 +13,8 @@ use Rattle.cm_fields.specs.declared.code.Code.TheVariants.{BadDate, YearRange}
 use Rattle.cm_fields.specs.declared.value.Value.{Value}
 use Rattle.cm_fields.specs.declared.value.Value.TheVariants.{Date}
 use Rattle.cm_dates.specs.Date.{date_of, dated, day_in, is_hyphen, is_number, month_among, month_of, months, year_of}
-use Rattle.cm_dates.proofs.Texts.{after_last}
+use Rattle.cm_dates.proofs.Days.{day_between}
 use Rattle.ex_store.specs.WellFormed.{is_day}
-
-before_first_day : day_count (pos 1969) 12 31 ≡ 4_371_952
-before_first_day =
-    let first = day_count-early (pos 1969) 11968 1 1 refl (omega arith) (omega arith) (omega arith) in
-    omega (arith, day_count-last_of_year (pos 1969), first)
-
-date_before : IsCivilDate (pos 1969) 12 31
-date_before = search rules
-
--- the number of a day of these years
-day_between : (y m d : ℕ) → 1970 ≤ y → y ≤ 2099 → IsInRange 1 12 m → 1 ≤ d → d ≤ days_in_month (pos y) m
-    → IsBetween (pos 0) (pos 47481) (days_from_civil (pos y) m d)
-day_between y m d from to month some fits =
-    let count = days_from_civil-day_count (pos y) m d in
-    let civil : IsCivilDate (pos y) m d = ((omega (arith, signed_arith), omega (arith, signed_arith)), month, (some, fits)) in
-    let before = day_count-lt_year (pos 1969) 12 31 (pos y) m d date_before some (omega (arith, signed_arith)) in
-    let after = day_count-lt_year (pos y) m d (pos 2100) 1 1 civil (omega arith) (omega (arith, signed_arith)) in
-    (omega (arith, signed_arith, count, before, before_first_day), omega (arith, signed_arith, count, after, after_last))
 
 day_is : (day : ℤ) → IsBetween (pos 0) (pos 47481) day → is_day (Some day) ≡ true
 day_is (pos n) between = (let most = between.1 in grind (arith, nat_tests))

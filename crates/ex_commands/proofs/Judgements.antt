@@ -11,7 +11,6 @@ use Rattle.std.proofs.lemmas.Bool.Decides.{nat_tests}
 use Rattle.cm_lists.proofs.Bools.{cond_each}
 use Rattle.cm_lists.proofs.Quantifiers.{all_filter}
 use Rattle.cm_text.specs.Bytes.{is_word}
-use Rattle.cm_text.specs.Case.{begins_with}
 use Rattle.cm_text.specs.declared.name.TheConstants.{NAME_LIMIT}
 use Rattle.cm_tables.specs.declared.entry.Entry.{Entry}
 use Rattle.cm_fields.specs.declared.code.Code.{Code}
@@ -28,7 +27,7 @@ use Rattle.cm_dates.specs.Date.{date_of}
 use Rattle.cm_dates.proofs.Values.{IsDateIfOk, run_is_date}
 use Rattle.cm_files.specs.LogicalName.{is_logical_name}
 use Rattle.cm_files.proofs.LogicalNames.{short_name}
-use Rattle.cm_hooks.specs.Among.{only, under, verdict_among}
+use Rattle.cm_hooks.specs.Among.{has_name, is_under, only, under, verdict_among}
 use Rattle.cm_hooks.specs.declared.answer.Answer.{Answer}
 use Rattle.cm_hooks.specs.declared.answer.Answer.TheVariants.{Yes, No, NoBecause}
 use Rattle.cm_hooks.specs.Field.{hook_of, judged}
@@ -174,7 +173,7 @@ unfolding verdict_among
 form_few atom =
     cond_each (AtMost 2) (length atom == 0) No (only (under forms atom)) tt
     (only_few (under forms atom)
-    (all_filter is_form_number (λ (name : ℕ × List ℕ). begins_with name.1 atom) (enumerate_from 0 forms) forms_few))
+    (all_filter is_form_number (λ (name : ℕ × List ℕ). is_under (has_name forms atom) atom name.1) (enumerate_from 0 forms) forms_few))
 
 retention_few : (atom : List ℕ) → AtMost RETENTION_LIMIT (retention_verdict atom)
 unfolding retention_verdict
