@@ -1,11 +1,10 @@
 -- Where a field that a chain takes ends and leads.
-use Rattle.std.proofs.Common.{◌≡◌, ℕ, zero, suc, ◌+◌, ◌<◌, ◌≤◌, max, Bool, true, false, ◌&&◌, if◌then◌else◌, is_some, unwrap_or, nat_lt, List, [], ◌∷◌, length, drop, Option, Some, None, IfSome, slice_get, refl, arith, length-drop}
+use Rattle.std.proofs.Common.{◌≡◌, ℕ, zero, suc, ◌+◌, ◌<◌, ◌≤◌, max, Bool, true, false, if◌then◌else◌, nat_lt, List, [], ◌∷◌, length, drop, Option, Some, None, slice_get, refl, arith, length-drop}
 use Rattle.std.proofs.lemmas.Bool.{and_parts}
 use Rattle.std.specs.List.{All, list_all}
 use Rattle.std.proofs.lemmas.Bool.Decides.{nat_tests}
 use Rattle.cm_lists.proofs.Bools.{cond_each}
 use Rattle.cm_text.specs.Bytes.{is_name, is_word}
-use Rattle.cm_text.specs.Text.{finished}
 use Rattle.cm_tables.specs.declared.entry.Entry.{Entry}
 use Rattle.cm_dates.specs.Date.{date_of}
 use Rattle.cm_fields.specs.declared.code.Code.{Code}
@@ -24,20 +23,23 @@ use Rattle.cm_fields.proofs.Phrases.{noise_reaches, token_reaches}
 use Rattle.cm_fields.proofs.QuotedTexts.{quoted_reaches}
 use Rattle.cm_fields.proofs.Runs.{run_reaches}
 use Rattle.cm_fields.proofs.Skips.{skip_within}
+use Rattle.cm_files.specs.Catalogue.{Catalogue}
 use Rattle.cm_files.specs.declared.flags.Flags.{Flags}
 use Rattle.cm_files.proofs.Trials.{directory_reaches, file_reaches, user_reaches}
 use Rattle.cm_hooks.specs.Field.{hook_of}
+use Rattle.cm_hooks.specs.Meanings.{Meanings}
 use Rattle.cm_blocks.specs.declared.chain.Walk.{Walk}
 use Rattle.cm_blocks.specs.declared.chain.Walk.TheVariants.{Takes, Wants, Fails}
+use Rattle.cm_blocks.specs.declared.field.Chain.{Chain}
 use Rattle.cm_blocks.specs.declared.function.Function.{Function}
 use Rattle.cm_blocks.specs.declared.function.Function.TheVariants.{Key, Switch, Noise, Number, Word, Quoted, Token, Date, User, Directory, InFile, OutFile, AnyFile, Text, Comma, Confirm, Hook}
 use Rattle.cm_blocks.specs.declared.node.Block.{Block}
 use Rattle.cm_blocks.specs.declared.node.Node.{Node}
-use Rattle.cm_blocks.specs.Chain.{ChainLeads, Counted, answered, at_node, by_default, chain_at, default_place, default_rest, defaulted, is_confirm, is_line_end, on_default, on_text, or_later, past_skip, spent, typed, walk}
+use Rattle.cm_blocks.specs.Chain.{ChainLeads, Counted, answered, at_node, by_default, chain_at, default_place, default_rest, defaulted, is_confirm, is_line_end, or_later, past_skip, typed, walk}
 use Rattle.cm_blocks.specs.Fault.{entries_of, grammar_fault, has_phrase, leads_within}
 use Rattle.cm_blocks.specs.Grammar.{Graph}
 use Rattle.cm_blocks.specs.Keyword.{entry_position, key_value}
-use Rattle.cm_blocks.specs.Setting.{Setting}
+use Rattle.cm_blocks.specs.Setting.{Setting, setting}
 use Rattle.cm_blocks.specs.Trial.{entry_next, keyword_next, looked_of, next_of, table_of, trial}
 use Rattle.cm_blocks.specs.Well.{IsWell, IsWellBlock}
 use Rattle.cm_blocks.proofs.Switches.{switch_reaches}
@@ -222,34 +224,29 @@ chain_leads s number text at none within = by (slice_get s.graph.nodes number) r
     by (Some node) is =
         node_leads s number node text at (well_node s.graph number node none is) (some_node s.graph number node is) within
 
--- the blocks are tried on the default where the node has one and the line ends there, and else on the text
-pub blocks_by_default : (s : Setting) (number : ℕ) (node : Node) (text line tried : List ℕ) (start place : ℕ) (chosen : Bool)
-    → chosen ≡ (is_some node.default && is_line_end (drop start text))
-    → (chosen ≡ true → IfSome node.default (λ default. line ≡ finished default))
-    → tried ≡ (if chosen then line else text)
-    → place ≡ (if chosen then unwrap_or (skip node.raw line 0) 0 else start)
-    → record {
-      chain = answered chosen number start (walk s (drop place tried) place 0 0 NotConfirmed node.chain);
-      spent = spent s (drop place tried) place node.chain;
-    } ≡ by_default s number node (drop start text) start node.default
-blocks_by_default s number node text line tried start place chosen is line_is tried_is place_is = by node.default is line_is
+-- what the blocks answer leads on, on the default, where that is chosen, as on the text
+pub tries_lead : (graph : Graph) (catalogue : Catalogue) (meanings : Meanings) (number : ℕ) (text line tried : List ℕ)
+    (at start place from : ℕ) (chosen : Bool) (blocks : List Block) (walked : Walk) (answer : Chain)
+    → answer ≡ answered chosen number start walked
+    → walked ≡ walk (setting graph catalogue meanings) (drop place tried) place 0 0 NotConfirmed blocks
+    → tried ≡ (if chosen then line else text) → place ≡ (if chosen then from else start)
+    → All (IsWellBlock graph) blocks → 0 < length graph.nodes → at ≤ start → start ≤ length text
+    → ChainLeads (length graph.nodes) at (length text) answer
+tries_lead graph catalogue meanings number text line tried at start place from chosen blocks walked answer
+    is walks tried_is place_is well some after within =
+    rw (is, walks) (by chosen tried_is place_is)
   where
-    tries : Counted
-    tries = record {
-      chain = answered chosen number start (walk s (drop place tried) place 0 0 NotConfirmed node.chain);
-      spent = spent s (drop place tried) place node.chain;
-    }
+    s : Setting
+    s = setting graph catalogue meanings
 
-    plain : chosen ≡ false → tries ≡ on_text s number node (drop start text) start
-    plain none = rw (tried_is, place_is, none) refl
-
-    ends : (default : List ℕ) (end : Bool) → chosen ≡ end → (chosen ≡ true → line ≡ finished default)
-        → tries ≡ (if end then on_default s number node start default else on_text s number node (drop start text) start)
-    ends default true is line_is = rw (tried_is, place_is, line_is is, is) refl
-    ends default false is line_is = plain is
-
-    by : (default : Option (List ℕ)) → chosen ≡ (is_some default && is_line_end (drop start text))
-        → (chosen ≡ true → IfSome default (λ default. line ≡ finished default))
-        → tries ≡ by_default s number node (drop start text) start default
-    by None is line_is = plain is
-    by (Some default) is line_is = ends default (is_line_end (drop start text)) is line_is
+    by : (chosen : Bool) → tried ≡ (if chosen then line else text) → place ≡ (if chosen then from else start)
+        → ChainLeads (length graph.nodes) at (length text)
+        (answered chosen number start (walk s (drop place tried) place 0 0 NotConfirmed blocks))
+    by true tried_is place_is =
+        defaulted_leads _ at (length text) number start place (length (drop place tried)) _ after within
+        (walk_leads s (drop place tried) place 0 0 NotConfirmed blocks well some)
+    by false tried_is place_is =
+        let size = length-drop start text in
+        rw (tried_is, place_is)
+        (typed_leads _ at (length text) number start (length (drop start text)) _ after (omega arith)
+        (walk_leads s (drop start text) start 0 0 NotConfirmed blocks well some))

@@ -216,7 +216,7 @@ fn tried_on<'a>(
 /// place with no bytes. The first block that does not refuse decides: its field, Done for the end of the
 /// line, Open where it wants more. Where all refuse the answer is Fault with the code of the last. The
 /// counter rises by the bytes that each block looked at, and one for each.
-#[tactic(auto, unfolding(crate::specs::Chain::chain_at))]
+#[tactic(auto, using(crate::proofs::Walks::tries_lead), unfolding(crate::specs::Chain::chain_at))]
 pub fn try_chain<N: Names, R: Rules, L: Ledger>(
     grammar: &Grammar,
     node: u16,

@@ -1,5 +1,5 @@
 -- Each position that the look-up gives is one of the table.
-use Rattle.std.proofs.Common.{◌≡◌, ℕ, ◌+◌, ◌<◌, ◌≤◌, Bool, true, false, cond, ltb, List, [], ◌∷◌, length, Option, Some, None, slice_get, arith, refl}
+use Rattle.std.proofs.Common.{◌≡◌, ℕ, ◌+◌, ◌<◌, ◌≤◌, Bool, true, false, cond, ltb, List, [], ◌∷◌, length, Option, Some, None, slice_get, arith, refl, subst, sym}
 use Rattle.std.specs.List.{enumerate_from, filter}
 use Rattle.std.proofs.lemmas.Option.{slice_get_within}
 use Rattle.cm_tables.specs.Look.{IsWithin, abbreviated, by_equal, equal_entries, exact, look, candidates}
@@ -8,6 +8,7 @@ use Rattle.cm_tables.specs.declared.entry.Entry.{Entry}
 use Rattle.cm_tables.specs.declared.entry.Flag.{Flag}
 use Rattle.cm_tables.specs.declared.entry.Flag.TheVariants.{Plain, Invisible, NoRecognise, Short}
 use Rattle.cm_tables.specs.declared.fault.TheConstants.{ENTRY_LIMIT}
+use Rattle.cm_tables.specs.declared.table.Look.{Look}
 use Rattle.cm_tables.specs.declared.table.TableFault.{TableFault}
 use Rattle.cm_tables.specs.declared.table.TableFault.TheVariants.{TooMany, BadTarget}
 
@@ -112,3 +113,8 @@ look-within table atom e =
     let all = all-stand-within table 0 table (no-targets_fault table e) in
     by_equal-within (equal_entries table atom) (candidates table atom) (length table)
     (places-within _ 0 table (length table) (omega arith) all) (places-within _ 0 table (length table) (omega arith) all)
+
+-- and so does an answer that is what it gives
+pub answer_within : (table : List Entry) (atom : List ℕ) (answer : Look) → answer ≡ look table atom
+    → table_fault table ≡ None → IsWithin answer (length table)
+answer_within table atom answer is none = subst (λ (it : Look). IsWithin it (length table)) (sym is) (look-within table atom none)

@@ -135,7 +135,7 @@ impl Table {
     /// The same, and how many entries are looked at: those of the one search by halving are added to `probes`, and
     /// those read where it ends to `reads`. An entry whose text is the atom is the first that is read; of those that
     /// begin with the atom as many are read as decide.
-    #[tactic(auto, using(crate::proofs::StartLaws::ascends_of))]
+    #[tactic(auto, using(crate::proofs::StartLaws::ascends_of, crate::proofs::WithinLemmas::answer_within))]
     pub fn look_counted(&self, atom: &[u8], probes: &mut u64, reads: &mut u64) -> Look
         ensures value { result ≡ look self.now atom.now }
         ensures within { IsWithin result (length self.now) }

@@ -8,16 +8,16 @@ use Rattle.cm_tables.specs.declared.table.TableFault.{TableFault}
 use Rattle.cm_tables.specs.declared.table.TableFault.TheVariants.{TooMany}
 use Rattle.cm_tables.proofs.laws.a_look_up_asks_11_times.Goals as goal
 
-few_entries : (table : List Entry) → table_fault table ≡ None → length table ≤ 1024
+few_entries : (table : List Entry) → table_fault table ≡ None → length table ≤ 2047
 unfolding table_fault
 few_entries table none = by (ltb ENTRY_LIMIT (length table)) refl _ none
   where
     by : (over : Bool) → ltb ENTRY_LIMIT (length table) ≡ over → (rest : Option TableFault)
-        → cond over (Some TooMany) rest ≡ None → length table ≤ 1024
+        → cond over (Some TooMany) rest ≡ None → length table ≤ 2047
     by true is rest none = cc
     by false is rest none = grind (arith, nat_tests)
 
-few_digits : (probes size : ℕ) → size ≤ 1024 → 2 ^ probes ≤ 2 * size + 1 → probes ≤ 11
+few_digits : (probes size : ℕ) → size ≤ 2047 → 2 ^ probes ≤ 2 * size + 1 → probes ≤ 11
 few_digits probes size most few = by (ltb 11 probes) refl
   where
     by : (over : Bool) → ltb 11 probes ≡ over → probes ≤ 11
