@@ -1,20 +1,20 @@
--- The walk of names that begin with an atom.
+-- The walk of names that an atom may stand for.
 use Rattle.std.proofs.Common.{◌≡◌, ℕ, Bool, true, false, ◌&&◌, nat_le, List, [], ◌∷◌, Option, Some, None, refl, length}
 use Rattle.std.specs.List.{enumerate_from, filter, fold, list_all}
 use Rattle.std.specs.Str.{IsAscii}
 use Rattle.cm_text.specs.Bytes.{is_name}
-use Rattle.cm_text.specs.Case.{begins_with}
 use Rattle.cm_text.specs.declared.name.TheConstants.{NAME_LIMIT}
 use Rattle.cm_text.proofs.Ascii.{name_bytes_are_ascii}
-use Rattle.cm_hooks.specs.Among.{goes_on, is_name_text, joined, only, shared}
+use Rattle.cm_hooks.specs.Among.{goes_on, is_name_text, is_under, joined, only, shared}
 use Rattle.cm_hooks.specs.declared.answer.Answer.{Answer}
 use Rattle.cm_hooks.specs.declared.answer.Answer.TheVariants.{Yes, No}
 use Rattle.cm_hooks.specs.declared.answer.Tail.{Tail}
 use Rattle.cm_hooks.specs.declared.answer.Tail.TheVariants as tails
 
--- the names that begin with an atom, the first of which has this number
-abbrev pub under_from : ℕ → List (List ℕ) → List ℕ → List (ℕ × List ℕ)
-under_from number names atom = filter (λ (name : ℕ × List ℕ). begins_with name.1 atom) (enumerate_from number names)
+-- the names that an atom may stand for, the first of which has this number
+abbrev pub under_from : Bool → ℕ → List (List ℕ) → List ℕ → List (ℕ × List ℕ)
+under_from whole number names atom =
+    filter (λ (name : ℕ × List ℕ). is_under whole atom name.1) (enumerate_from number names)
 
 -- what a walk gives that has found the one so far, and comes to these
 abbrev pub only_with : Option ℕ → List (ℕ × List ℕ) → Answer

@@ -1,8 +1,8 @@
--- Which of several names an atom stands for by its beginning, and how it goes on. Letters have no case.
+-- Which of several names an atom stands for, and how it goes on. Letters have no case.
 use Rattle.std.specs.Prelude.{ℕ, Bool, ◌==◌, ◌&&◌, nat_le, if◌then◌else◌, List, [], ◌∷◌, length, take, drop, filter, map}
-use Rattle.std.specs.List.{common_prefix_len, enumerate_from, fold, list_all}
+use Rattle.std.specs.List.{common_prefix_len, enumerate_from, fold, list_all, list_any}
 use Rattle.cm_text.specs.Bytes.{is_name}
-use Rattle.cm_text.specs.Case.{begins_with}
+use Rattle.cm_text.specs.Case.{begins_with, equals}
 use Rattle.cm_text.specs.declared.name.TheConstants.{NAME_LIMIT}
 use Rattle.cm_hooks.specs.declared.answer.Answer.{Answer}
 use Rattle.cm_hooks.specs.declared.answer.Answer.TheVariants.{Yes, No}
@@ -18,9 +18,18 @@ is_name_text text = list_all is_name text && nat_le (length text) NAME_LIMIT
 abbrev pub are_names : List (List ℕ) → Bool
 are_names names = list_all is_name_text names
 
--- the names that begin with an atom, each with its number
+-- one of the names is the atom
+abbrev pub has_name : List (List ℕ) → List ℕ → Bool
+has_name names atom = list_any (λ (name : List ℕ). equals name atom) names
+
+-- a name is the atom where a whole one is asked for, and begins with it else
+abbrev pub is_under : Bool → List ℕ → List ℕ → Bool
+is_under whole atom name = if whole then equals name atom else begins_with name atom
+
+-- the names that an atom may stand for, each with its number: one that is the atom goes before all that begin with it
 abbrev pub under : List (List ℕ) → List ℕ → List (ℕ × List ℕ)
-under names atom = filter (λ (name : ℕ × List ℕ). begins_with name.1 atom) (enumerate_from 0 names)
+under names atom =
+    filter (λ (name : ℕ × List ℕ). is_under (has_name names atom) atom name.1) (enumerate_from 0 names)
 
 -- the number of the only one
 abbrev pub only : List (ℕ × List ℕ) → Answer
@@ -28,7 +37,7 @@ only [] = No
 only (name ∷ []) = Yes name.0
 only (name ∷ other ∷ more) = No
 
--- an atom that is not empty stands for the only name that begins with it
+-- an atom that is not empty stands for the only name that it may stand for
 unfoldable pub verdict_among : List (List ℕ) → List ℕ → Answer
 verdict_among names atom = if length atom == 0 then No else only (under names atom)
 

@@ -1,12 +1,15 @@
 -- What completes an atom to one of several names is taken.
-use Rattle.std.proofs.Common.{◌≡◌, ℕ, ◌+◌, ◌<◌, ◌≤◌, Bool, true, false, cond, ◌&&◌, ◌==◌, nat_le, List, [], ◌∷◌, ◌++◌, length, take, drop, zero, suc, refl, arith, filter, subst, length-append}
+use Rattle.std.proofs.Common.{◌≡◌, ℕ, ◌+◌, ◌<◌, ◌≤◌, Bool, true, false, ap, cond, ◌&&◌, ◌||◌, ◌==◌, ◌∙◌, sym, nat_le, List, [], ◌∷◌, ◌++◌, length, take, drop, zero, suc, refl, arith, filter, subst, length-append}
+use Rattle.std.specs.Char.{to_ascii_lowercase}
 use Rattle.std.specs.List.{enumerate_from, fold, list_all}
 use Rattle.std.proofs.lemmas.Bool.Decides.{nat_tests}
+use Rattle.std.proofs.lemmas.List.{append-nil, drop_all, length-map, take_all}
+use Rattle.std.proofs.lemmas.Slice.Eq.{bytes_eq-Decides}
 use Rattle.cm_text.specs.Bytes.{is_name}
-use Rattle.cm_text.specs.Case.{begins_with}
-use Rattle.cm_text.specs.BeginLaws.{begins_longer, begins_whole, length-whole}
+use Rattle.cm_text.specs.Case.{begins_with, equals}
+use Rattle.cm_text.specs.BeginLaws.{begins_longer, begins_whole, length-whole, lower, same_begins}
 use Rattle.cm_text.specs.declared.name.TheConstants.{NAME_LIMIT}
-use Rattle.cm_hooks.specs.Among.{are_names, choice_meanings, completion_among, goes_on, is_name_text, rests, shared, under, verdict_among}
+use Rattle.cm_hooks.specs.Among.{are_names, choice_meanings, completion_among, goes_on, has_name, is_name_text, is_under, rests, shared, under, verdict_among}
 use Rattle.cm_hooks.specs.declared.answer.Tail.TheVariants as tails
 use Rattle.cm_hooks.specs.Meanings.{Completes, IsLawful, IsYes}
 
@@ -35,9 +38,9 @@ both : (a b : Bool) → (a && b) ≡ true → (a ≡ true) × (b ≡ true)
 both true b is = (refl, is)
 both false b is = cc
 
--- the names that begin with an atom, of some that have their numbers
-abbrev passing : List ℕ → List (ℕ × List ℕ) → List (ℕ × List ℕ)
-passing atom names = filter (λ (name : ℕ × List ℕ). begins_with name.1 atom) names
+-- those of some numbered names that pass a test
+abbrev passing : (List ℕ → Bool) → List (ℕ × List ℕ) → List (ℕ × List ℕ)
+passing test names = filter (λ (name : ℕ × List ℕ). test name.1) names
 
 -- each is name bytes, at most 39
 abbrev AreNames : List (ℕ × List ℕ) → Type 0
@@ -52,13 +55,12 @@ numbered_names number (name ∷ more) all =
     let short : length name ≤ NAME_LIMIT = grind (arith, nat_tests, text.1) in
     (text.0, short, numbered_names (number + 1) more here.1)
 
--- so are those that begin with an atom
-passing_names : (atom : List ℕ) (names : List (ℕ × List ℕ)) → AreNames names → AreNames (passing atom names)
-passing_names atom [] all = tt
-passing_names atom (name ∷ more) (bytes, short, all) =
-    by (begins_with name.1 atom) (passing_names atom more all)
+-- so are those that pass a test
+passing_names : (test : List ℕ → Bool) (names : List (ℕ × List ℕ)) → AreNames names → AreNames (passing test names)
+passing_names test [] all = tt
+passing_names test (name ∷ more) (bytes, short, all) = by (test name.1) (passing_names test more all)
   where
-    by : (b : Bool) → AreNames (passing atom more) → AreNames (cond b (name ∷ passing atom more) (passing atom more))
+    by : (b : Bool) → AreNames (passing test more) → AreNames (cond b (name ∷ passing test more) (passing test more))
     by true rest = (bytes, short, rest)
     by false rest = rest
 
@@ -79,45 +81,134 @@ shared_bytes text [] first all = first
 shared_bytes text (other ∷ more) first (bytes, all) =
     shared_bytes (shared text other) more (list_all-take is_name _ other bytes) all
 
--- where no name begins with an atom, none begins with what is longer
-none_longer : (atom more : List ℕ) (names : List (ℕ × List ℕ)) → passing atom names ≡ []
-    → passing (atom ++ more) names ≡ []
-none_longer atom more [] none = refl
-none_longer atom more (name ∷ names) none = by (begins_with name.1 atom) refl (none_longer atom more names) none
+-- what no name passes, none passes that asks for more
+none_stricter : (test strict : List ℕ → Bool) → ((name : List ℕ) → test name ≡ false → strict name ≡ false)
+    → (names : List (ℕ × List ℕ)) → passing test names ≡ [] → passing strict names ≡ []
+none_stricter test strict stricter [] none = refl
+none_stricter test strict stricter (name ∷ names) none =
+    by (test name.1) refl (none_stricter test strict stricter names) none
   where
-    by : (b : Bool) → begins_with name.1 atom ≡ b
-        → (passing atom names ≡ [] → passing (atom ++ more) names ≡ [])
-        → cond b (name ∷ passing atom names) (passing atom names) ≡ [] → passing (atom ++ more) (name ∷ names) ≡ []
-    by true begins rest none = cc
-    by false begins rest none = rw (begins_longer name.1 atom more begins) (rest none)
+    by : (b : Bool) → test name.1 ≡ b → (passing test names ≡ [] → passing strict names ≡ [])
+        → cond b (name ∷ passing test names) (passing test names) ≡ [] → passing strict (name ∷ names) ≡ []
+    by true is rest none = cc
+    by false is rest none = rw (stricter name.1 is) (rest none)
 
--- where one name alone begins with an atom, it alone begins with the atom and its rest
-one_whole : (atom : List ℕ) (one : ℕ × List ℕ) (names : List (ℕ × List ℕ)) → passing atom names ≡ one ∷ []
-    → (passing (atom ++ drop (length atom) one.1) names ≡ one ∷ []) × (begins_with one.1 atom ≡ true)
-one_whole atom one [] is = cc
-one_whole atom one (name ∷ names) is = by (begins_with name.1 atom) refl (one_whole atom one names) is
+-- where one name alone passes, it alone passes what asks for more, if it does
+one_stricter : (test strict : List ℕ → Bool) → ((name : List ℕ) → test name ≡ false → strict name ≡ false)
+    → (one : ℕ × List ℕ) → strict one.1 ≡ true → (names : List (ℕ × List ℕ)) → passing test names ≡ one ∷ []
+    → passing strict names ≡ one ∷ []
+one_stricter test strict stricter one passes [] is = cc
+one_stricter test strict stricter one passes (name ∷ names) is =
+    by (test name.1) refl (one_stricter test strict stricter one passes names) is
   where
-    found : begins_with name.1 atom ≡ true → name ≡ one → passing atom names ≡ []
-        → (passing (atom ++ drop (length atom) one.1) (name ∷ names) ≡ one ∷ []) × (begins_with one.1 atom ≡ true)
-    found begins same none =
-        let IsFound : (ℕ × List ℕ) → Type 0 = λ it.
-        (passing (atom ++ drop (length atom) it.1) (name ∷ names) ≡ it ∷ []) × (begins_with it.1 atom ≡ true) in
-        let longer : passing (atom ++ drop (length atom) name.1) (name ∷ names) ≡ name ∷ [] =
-        rw (begins_whole name.1 atom begins, none_longer atom (drop (length atom) name.1) names none) refl in
-        subst IsFound same (longer, begins)
+    found : name ≡ one → passing test names ≡ [] → passing strict (name ∷ names) ≡ one ∷ []
+    found same none =
+        let here : strict name.1 ≡ true = subst (λ (it : ℕ × List ℕ). strict it.1 ≡ true) (sym same) passes in
+        rw (here, none_stricter test strict stricter names none, same) refl
 
-    by : (b : Bool) → begins_with name.1 atom ≡ b
-        → (passing atom names ≡ one ∷ []
-        → (passing (atom ++ drop (length atom) one.1) names ≡ one ∷ []) × (begins_with one.1 atom ≡ true))
-        → cond b (name ∷ passing atom names) (passing atom names) ≡ one ∷ []
-        → (passing (atom ++ drop (length atom) one.1) (name ∷ names) ≡ one ∷ []) × (begins_with one.1 atom ≡ true)
-    by true begins rest is =
+    by : (b : Bool) → test name.1 ≡ b → (passing test names ≡ one ∷ [] → passing strict names ≡ one ∷ [])
+        → cond b (name ∷ passing test names) (passing test names) ≡ one ∷ []
+        → passing strict (name ∷ names) ≡ one ∷ []
+    by true is rest all =
         let same : name ≡ one = cc in
-        let none : passing atom names ≡ [] = cc in
-        found begins same none
-    by false begins rest is = rw (begins_longer name.1 atom (drop (length atom) one.1) begins) (rest is)
+        let none : passing test names ≡ [] = cc in
+        found same none
+    by false is rest all = rw (stricter name.1 is) (rest all)
 
--- an atom that is not empty and with which one name begins is taken
+-- and that name passes
+one_passes : (test : List ℕ → Bool) (one : ℕ × List ℕ) (names : List (ℕ × List ℕ)) → passing test names ≡ one ∷ []
+    → test one.1 ≡ true
+one_passes test one [] is = cc
+one_passes test one (name ∷ names) is = by (test name.1) refl (one_passes test one names) is
+  where
+    by : (b : Bool) → test name.1 ≡ b → (passing test names ≡ one ∷ [] → test one.1 ≡ true)
+        → cond b (name ∷ passing test names) (passing test names) ≡ one ∷ [] → test one.1 ≡ true
+    by true is rest all =
+        let same : name ≡ one = cc in
+        subst (λ (it : ℕ × List ℕ). test it.1 ≡ true) same is
+    by false is rest all = rest all
+
+-- a name that is an atom begins with it, and is as long
+equals_begins : (name atom : List ℕ) → equals name atom ≡ true
+    → (begins_with name atom ≡ true) × (length name ≡ length atom)
+unfolding equals
+equals_begins name atom is =
+    let same : lower name ≡ lower atom = (bytes_eq-Decides _ _).0 is in
+    let lengths = ap length same in
+    let size = length-map name to_ascii_lowercase in
+    let other = length-map atom to_ascii_lowercase in
+    let long : length name ≡ length atom = omega (arith, lengths, size, other) in
+    let all : take (length atom) name ≡ name = take_all (length atom) name (omega (arith, long)) in
+    (same_begins name atom (ap lower all ∙ same), long)
+
+pub equal_begins : (name atom : List ℕ) → equals name atom ≡ true → begins_with name atom ≡ true
+equal_begins name atom is = (equals_begins name atom is).0
+
+-- a name that begins with an atom is the atom and what is left of it
+pub whole_equals : (name atom : List ℕ) → begins_with name atom ≡ true
+    → equals name (atom ++ drop (length atom) name) ≡ true
+unfolding begins_with
+whole_equals name atom begins =
+    let whole : List ℕ = atom ++ drop (length atom) name in
+    let size = length-whole name atom begins in
+    let all : take (length whole) name ≡ name = take_all (length whole) name (omega (arith, size)) in
+    ap (λ (text : List ℕ). equals text whole) (sym all) ∙ begins_whole name atom begins
+
+-- a name that may not stand for an atom is not what is longer
+longer_stricter : (whole : Bool) (atom rest : List ℕ) → (whole ≡ true → rest ≡ []) → (name : List ℕ)
+    → is_under whole atom name ≡ false → equals name (atom ++ rest) ≡ false
+longer_stricter true atom rest none name other =
+    let same : atom ++ rest ≡ atom = rw (none refl) (append-nil atom) in
+    rw same other
+longer_stricter false atom rest none name other = by (equals name (atom ++ rest)) refl
+  where
+    by : (b : Bool) → equals name (atom ++ rest) ≡ b → b ≡ false
+    by true is =
+        let begins = (equals_begins name (atom ++ rest) is).0 in
+        let longer = begins_longer name atom rest other in
+        cc
+    by false is = refl
+
+-- the one name that an atom may stand for begins with it, and is it where a whole one is asked for
+begins_under : (whole : Bool) (atom name : List ℕ) → is_under whole atom name ≡ true
+    → (begins_with name atom ≡ true) × (whole ≡ true → drop (length atom) name ≡ [])
+begins_under true atom name is =
+    let both = equals_begins name atom is in
+    (both.0, λ _. drop_all (length atom) name (omega (arith, both.1)))
+begins_under false atom name is = (is, λ (e : false ≡ true). cc)
+
+-- one of the names is the atom where one of them passes as it
+has_passing : (atom : List ℕ) (number : ℕ) (names : List (List ℕ)) (one : ℕ × List ℕ)
+    → passing (λ name. equals name atom) (enumerate_from number names) ≡ one ∷ [] → has_name names atom ≡ true
+has_passing atom number [] one is = cc
+has_passing atom number (name ∷ names) one is =
+    by (equals name atom) (has_passing atom (number + 1) names one) is
+  where
+    others : List (ℕ × List ℕ)
+    others = passing (λ name. equals name atom) (enumerate_from (number + 1) names)
+
+    by : (b : Bool) → (others ≡ one ∷ [] → has_name names atom ≡ true)
+        → cond b ((number, name) ∷ others) others ≡ one ∷ [] → (b || has_name names atom) ≡ true
+    by true rest is = refl
+    by false rest is = rest is
+
+-- where an atom may stand for one name alone, the atom and the rest of the name are that name, and no other
+pub one_whole : (names : List (List ℕ)) (atom : List ℕ) (one : ℕ × List ℕ) → under names atom ≡ one ∷ []
+    → (begins_with one.1 atom ≡ true) × (under names (atom ++ drop (length atom) one.1) ≡ one ∷ [])
+    × (has_name names (atom ++ drop (length atom) one.1) ≡ true)
+one_whole names atom one is =
+    let asked = has_name names atom in
+    let rest = drop (length atom) one.1 in
+    let numbered = enumerate_from 0 names in
+    let passes = one_passes (is_under asked atom) one numbered is in
+    let begins = begins_under asked atom one.1 passes in
+    let alone : passing (λ name. equals name (atom ++ rest)) numbered ≡ one ∷ [] =
+    one_stricter (is_under asked atom) (λ name. equals name (atom ++ rest))
+    (longer_stricter asked atom rest begins.1) one (whole_equals one.1 atom begins.0) numbered is in
+    let held = has_passing (atom ++ rest) 0 names one alone in
+    (begins.0, rw held alone, held)
+
+-- an atom that is not empty and may stand for one name is taken
 one_taken : (names : List (List ℕ)) (atom : List ℕ) (one : ℕ × List ℕ) → 0 < length atom
     → under names atom ≡ one ∷ [] → IsYes (verdict_among names atom)
 unfolding verdict_among
@@ -125,19 +216,19 @@ one_taken names atom one some is =
     let full : (length atom == 0) ≡ false = grind (arith, nat_tests) in
     rw (full, is) tt
 
--- by the names that begin with an atom
+-- by the names that an atom may stand for
 found_completes : (names : List (List ℕ)) (atom : List ℕ) (found : List (ℕ × List ℕ)) → 0 < length atom
     → AreNames found → under names atom ≡ found
     → Completes (verdict_among names) atom (goes_on (rests (length atom) found))
 found_completes names atom [] some all is = tt
 found_completes names atom (one ∷ []) some (bytes, short, all) is =
-    let whole = one_whole atom one (enumerate_from 0 names) is in
-    let size = length-whole one.1 atom whole.1 in
+    let whole = one_whole names atom one is in
+    let size = length-whole one.1 atom whole.0 in
     let more : 0 < length (atom ++ drop (length atom) one.1) = simp length-append (omega arith) in (
       list_all-drop is_name (length atom) one.1 bytes,
       record {
         short = omega (arith, size);
-        taken = one_taken names (atom ++ drop (length atom) one.1) one more whole.0;
+        taken = one_taken names (atom ++ drop (length atom) one.1) one more whole.1;
       },
     )
 found_completes names atom (one ∷ other ∷ more) some all is =
@@ -156,7 +247,7 @@ among_completes names all atom = by (length atom == 0) refl
     by true empty = tt
     by false full =
         found_completes names atom (under names atom) (grind (arith, nat_tests))
-        (passing_names atom (enumerate_from 0 names) (numbered_names 0 names all)) refl
+        (passing_names (is_under (has_name names atom) atom) (enumerate_from 0 names) (numbered_names 0 names all)) refl
 
 -- so rules by which each field is one of them are lawful
 pub choices_lawful : (names : List (List ℕ)) (help : List ℕ) → are_names names ≡ true

@@ -2,3 +2,4 @@ pub mod Among
 pub mod AmongLaws
 pub mod Field
 pub mod Meanings
+pub mod Ties

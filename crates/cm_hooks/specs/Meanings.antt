@@ -1,5 +1,5 @@
 -- What hooks mean: for each id and atom a verdict and a completion, for each id a help text.
-use Rattle.std.specs.Prelude.{ℕ, ◌≡◌, ◌≤◌, ◌++◌, true, List, [], length}
+use Rattle.std.specs.Prelude.{ℕ, ◌≡◌, ◌≤◌, ◌++◌, nat_lt, if◌then◌else◌, true, List, [], length}
 use Rattle.std.specs.List.{list_all}
 use Rattle.cm_text.specs.declared.text.TheConstants.{LINE_LIMIT}
 use Rattle.cm_text.specs.Bytes.{is_name}
@@ -39,3 +39,11 @@ pub record IsLawful (meanings : Meanings) : Type 0 where
 -- no field of one's own is taken, nor completed, and the help is empty
 abbrev pub no_meanings : Meanings
 no_meanings = record { verdict = λ id atom. No; completion = λ id atom. tails.None; help = λ id. [] }
+
+-- so it is of hooks that are held, the first so many of those that are meant
+abbrev pub held_meanings : ℕ → Meanings → Meanings
+held_meanings count meant = record {
+  verdict = λ id atom. if nat_lt id count then meant.verdict id atom else No;
+  completion = λ id atom. if nat_lt id count then meant.completion id atom else tails.None;
+  help = λ id. if nat_lt id count then meant.help id else [];
+}

@@ -1,16 +1,42 @@
-// Which of several names an atom stands for by its beginning.
+// Which of several names an atom stands for.
 ghost use Rattle.std.specs.Prelude.{◌≡◌, ◌≤◌, drop, length, map, true};
 ghost use Rattle.std.specs.Str.{IsAscii};
 ghost use Rattle.cm_text.specs.Case.{begins_with};
-ghost use Rattle.cm_hooks.specs.Among.{are_names, completion_among, is_name_text, joined, shared, verdict_among};
+ghost use Rattle.cm_hooks.specs.Among.{are_names, completion_among, has_name, is_name_text, is_under, joined, shared, verdict_among};
 
 use crate::{Answer, Tail};
-use cm_text::{NAME_LIMIT, Name, begins_with, common_len};
+use cm_text::{NAME_LIMIT, Name, begins_with, common_len, equals};
 use std::convert::AsStr;
 
-/// Whether an atom stands for one of some names, each a text or a value that lends one: it is the name or abbreviates
-/// it, with no regard to the case of letters. Then Yes with the number of the name, its position in `names`. No where
-/// no name begins with the atom, where several do, also if the atom is one of them, and where the atom is empty.
+// Whether one of some names is an atom.
+fn has_name<T: AsStr>(names: &[T], atom: &[u8]) -> bool
+    ensures { result ≡ has_name (map T.text names.now) atom.now }
+{
+    for name in names {
+        if equals(name.as_str().as_bytes(), atom) {
+            return true;
+        }
+    }
+    false
+}
+
+// Whether a name is an atom, where a whole one is asked for, and else whether it begins with it.
+#[tactic(auto, using(crate::specs::AmongLaws::equal_begins))]
+fn is_under(whole: bool, name: &str, atom: &[u8]) -> bool
+    ensures value { result ≡ is_under whole atom.now name.now }
+    ensures begins { result ≡ true → begins_with name.now atom.now ≡ true }
+{
+    if whole {
+        equals(name.as_bytes(), atom)
+    } else {
+        begins_with(name.as_bytes(), atom)
+    }
+}
+
+/// Whether an atom stands for one of some names, each a text or a value that lends one: it is the name, or abbreviates
+/// it and is none itself, with no regard to the case of letters. Then Yes with the number of the name, its position in
+/// `names`. No where no name begins with the atom, where several do and none is the atom, where two are, and where the
+/// atom is empty.
 #[tactic(auto, unfolding(crate::specs::Among::verdict_among))]
 pub fn verdict_among<T: AsStr>(names: &[T], atom: &[u8]) -> Answer
     ensures { result ≡ verdict_among (map T.text names.now) atom.now }
@@ -18,9 +44,10 @@ pub fn verdict_among<T: AsStr>(names: &[T], atom: &[u8]) -> Answer
     if atom.is_empty() {
         return Answer::No;
     }
+    let whole = has_name(names, atom);
     let mut found = None;
     for (number, name) in names.iter().enumerate() {
-        if begins_with(name.as_str().as_bytes(), atom) {
+        if is_under(whole, name.as_str(), atom) {
             if found.is_some() {
                 return Answer::No;
             }
@@ -63,9 +90,9 @@ fn joined(tail: Tail, rest: &str) -> Tail
     }
 }
 
-/// How an atom goes on to one of some names, each of name bytes and at most 39: Whole with the rest of the only
-/// name that begins with it, Part with what the rests of several begin with alike, byte for byte. None where no
-/// name begins with it, and where the atom is empty.
+/// How an atom goes on to one of some names, each of name bytes and at most 39: Whole with nothing where it is the
+/// name, also where others begin with it, Whole with the rest of the only name that begins with it, Part with what the
+/// rests of several begin with alike, byte for byte. None where no name begins with it, and where the atom is empty.
 #[tactic(auto, unfolding(crate::specs::Among::completion_among))]
 pub fn completion_among<T: AsStr>(names: &[T], atom: &[u8]) -> Tail
     requires { are_names (map T.text names.now) ≡ true }
@@ -74,9 +101,10 @@ pub fn completion_among<T: AsStr>(names: &[T], atom: &[u8]) -> Tail
     if atom.is_empty() {
         return Tail::None;
     }
+    let whole = has_name(names, atom);
     let mut tail = Tail::None;
     for name in names {
-        if begins_with(name.as_str().as_bytes(), atom) {
+        if is_under(whole, name.as_str(), atom) {
             tail = joined(tail, rest(name.as_str(), atom));
         }
     }

@@ -5,6 +5,7 @@ ghost use Rattle.cm_hooks.specs.Among.{are_names, completion_among, verdict_amon
 ghost use Rattle.cm_hooks.specs.Field.{hook};
 ghost use Rattle.cm_hooks.specs.Meanings.{Completes, IsLawful};
 ghost use Rattle.cm_hooks.specs.declared.answer.Answer.{Answer};
+ghost use Rattle.cm_hooks.specs.declared.hooks.TheConstants.{HOOKS_LIMIT};
 
 use crate::Rules;
 
@@ -27,4 +28,9 @@ pub fn completions_are_taken<R: Rules>(rules: &R)
 pub fn completions_among_names_are_taken()
     ensures { (names : List (List ℕ)) → are_names names ≡ true → (atom : List ℕ)
         → Completes (verdict_among names) atom (completion_among names atom) }
+{}
+
+/// At most 16 hooks are held.
+pub fn these_are_the_numbers()
+    ensures hooks { HOOKS_LIMIT ≡ 16 }
 {}

@@ -5,4 +5,5 @@ use Rattle.cm_hooks.proofs.among.completion_among.Goals as goal
 
 pub loop-name-init : goal.loop-name-init
 loop-name-init g c =
-    (all_joined (rests (length c.args.atom.now) (under (map g.T.AsStr.text c.args.names.now) c.args.atom.now)), c.requires)
+    let names = map g.T.AsStr.text c.args.names.now in
+    (rw c.has_name-whole.ensures (all_joined (rests (length c.args.atom.now) (under names c.args.atom.now))), c.requires)

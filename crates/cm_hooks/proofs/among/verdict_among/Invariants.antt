@@ -5,5 +5,5 @@ use Rattle.cm_hooks.proofs.among.verdict_among.Given as goal
 
 abbrev pub invariant-loop-number : goal.invariant-loop-number
 invariant-loop-number g l =
-    only_with l.found (under_from l.number (map g.T.AsStr.text (drop l.number l.names)) l.atom)
+    only_with l.found (under_from l.whole l.number (map g.T.AsStr.text (drop l.number l.names)) l.atom)
     ≡ only (under (map g.T.AsStr.text l.names) l.atom)
