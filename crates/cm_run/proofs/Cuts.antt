@@ -22,7 +22,7 @@ whole : (bytes : List ℕ) → IsPart bytes bytes
 whole bytes = record { rest = []; joined = append-nil bytes }
 
 -- of the event that is cut
-screen_part : (S : Type 0) (cut : Cut) → IsPart (flat_map event_screen (part_of {S = S} cut)) (event_screen (event_of {S = S} cut))
+pub screen_part : (S : Type 0) (cut : Cut) → IsPart (flat_map event_screen (part_of {S = S} cut)) (event_screen (event_of {S = S} cut))
 screen_part S (ScreenCut part rest) = some part rest
 screen_part S (LogCut part rest) = none
 screen_part S (KeyCut key) = none
@@ -30,7 +30,7 @@ screen_part S EndCut = none
 screen_part S MemoryCut = none
 screen_part S LimitCut = none
 
-log_part : (S : Type 0) (cut : Cut) → IsPart (flat_map event_log (part_of {S = S} cut)) (event_log (event_of {S = S} cut))
+pub log_part : (S : Type 0) (cut : Cut) → IsPart (flat_map event_log (part_of {S = S} cut)) (event_log (event_of {S = S} cut))
 log_part S (ScreenCut part rest) = none
 log_part S (LogCut part rest) = some part rest
 log_part S (KeyCut key) = none

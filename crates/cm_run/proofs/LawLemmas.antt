@@ -1,10 +1,11 @@
 -- [confirmation] What the laws of runs stand on.
 use Rattle.std.proofs.Common.{inl, inr, ◌≡◌, ℕ, ◌+◌, ◌-◌, ◌^◌, ◌<◌, List, [], ◌∷◌, ◌++◌, refl, ap, sym, ◌∙◌, arith}
-use Rattle.std.specs.Prelude.{Bool, true, false, Result, Ok, Err, ◌⊎◌}
+use Rattle.std.specs.Prelude.{Bool, true, false, Some, Result, Ok, Err, ◌⊎◌}
 use Rattle.std.specs.List.{flat_map, fold, sum_by}
 use Rattle.std.proofs.lemmas.List.{append-nil}
 use Rattle.std.proofs.lemmas.List.Sums.{fold-append, sum_by-append}
 use Rattle.std.proofs.lemmas.Grind.{flat_map-append}
+use Rattle.cm_io.specs.Contents.{add}
 use Rattle.cm_io.specs.Fault.{Rose}
 use Rattle.cm_blocks.specs.declared.field.Fault.{Fault}
 use Rattle.cm_state.specs.SessionState.{SessionState}
@@ -13,11 +14,13 @@ use Rattle.cm_state.specs.declared.turn.Turn.TheVariants as turn
 use Rattle.cm_run.specs.declared.stop.Stop.{Stop}
 use Rattle.cm_run.specs.declared.stop.Stop.TheVariants as stop
 use Rattle.cm_run.specs.Cause.{Counts, KeyCount, RunCause}
-use Rattle.cm_run.specs.Cut.{Cut, EndCut, KeyCut, LimitCut, LogCut, MemoryCut, ScreenCut, Traces, event_of, part_of}
-use Rattle.cm_run.specs.Event.{Act, Event, Log, Screen, Trials, event_key, event_trials, gets_after_event, moments_after_event, state_after_event}
+use Rattle.cm_run.specs.Cut.{Cut, EndCut, KeyCut, LimitCut, LogCut, MemoryCut, ScreenCut, Traces, event_of, part_of, why_of}
+use Rattle.cm_run.specs.Event.{Act, Event, Log, Screen, Trials, event_key, event_log, event_screen, event_trials, gets_after_event, moments_after_event, state_after_event}
+use Rattle.cm_run.specs.ExactCut.{IsExactCut, cause_at}
 use Rattle.cm_run.specs.Semantics.{Semantics}
 use Rattle.cm_run.specs.Observation.{Observation, Performs}
 use Rattle.cm_run.specs.Trace.{RunState, events_if, key_trace, keystroke, keystroke_trace, outcome_trace, turn_outcome}
+use Rattle.cm_run.proofs.Cuts.{log_part, screen_part}
 
 -- a line is refused, and does what the application means by it
 pub refused : {S : Type 0} (m : Semantics S) (state : S) (session : SessionState) (moment : ℕ) (fault : Fault)
@@ -35,6 +38,15 @@ idle m state session moment turn.Abandoned on = absurd (cc)
 idle m state session moment turn.Edited on = (refl, refl)
 idle m state session moment (turn.Refused fault) on = absurd (cc)
 idle m state session moment turn.Failed on = (refl, refl)
+
+-- an event is cut for its cause
+cause_of : (S : Type 0) (cut : Cut) → cause_at (event_of {S = S} cut) ≡ Some (why_of cut)
+cause_of S (ScreenCut part rest) = refl
+cause_of S (LogCut part rest) = refl
+cause_of S (KeyCut key) = refl
+cause_of S EndCut = refl
+cause_of S MemoryCut = refl
+cause_of S LimitCut = refl
 
 module _ {S : Type 0} where
   is_act : Event S → Bool
@@ -112,21 +124,26 @@ module _ {S : Type 0} where
       none LimitCut = refl
 
   pub cut_is_exact : (before now : Observation S) (events : List (Event S)) (why : Stop) → Traces before now events (Err why)
-      → (done rest : List (Event S)) × (done ++ rest ≡ events)
-      × (flat_map event_key done ++ now.keys ≡ before.keys) × (now.gets ≡ fold gets_after_event before.gets done)
-      × (now.moments ≡ fold moments_after_event before.moments done) × (now.trials ≡ before.trials + sum_by event_trials done)
-      × (now.state ≡ fold state_after_event before.state done)
+      → IsExactCut why before now events
   unfolding Traces Performs
-  cut_is_exact before now events why traces = (
-    traces.done,
-    event_of traces.cut ∷ traces.rest,
-    traces.split,
-    ap (λ keys. keys ++ now.keys) (sym (part_keys traces.cut traces.done)) ∙ traces.stands.keys,
-    traces.stands.gets ∙ part_fold gets_after_event before.gets (λ to bytes. refl) (λ to bytes. refl) traces.cut traces.done,
-    traces.stands.moments ∙ part_fold moments_after_event before.moments (λ to bytes. refl) (λ to bytes. refl) traces.cut traces.done,
-    traces.stands.trials ∙ ap (λ n. before.trials + n) (part_trials traces.cut traces.done),
-    traces.stands.state ∙ part_fold state_after_event before.state (λ to bytes. refl) (λ to bytes. refl) traces.cut traces.done,
-  )
+  cut_is_exact before now events why traces = record {
+    done = traces.done;
+    event = event_of traces.cut;
+    rest = traces.rest;
+    split = traces.split;
+    cause = cause_of S traces.cut ∙ ap (λ (it : Stop). Some it) traces.cause;
+    keys = ap (λ keys. keys ++ now.keys) (sym (part_keys traces.cut traces.done)) ∙ traces.stands.keys;
+    gets = traces.stands.gets ∙ part_fold gets_after_event before.gets (λ to bytes. refl) (λ to bytes. refl) traces.cut traces.done;
+    moments = traces.stands.moments ∙ part_fold moments_after_event before.moments (λ to bytes. refl) (λ to bytes. refl) traces.cut traces.done;
+    trials = traces.stands.trials ∙ ap (λ n. before.trials + n) (part_trials traces.cut traces.done);
+    state = traces.stands.state ∙ part_fold state_after_event before.state (λ to bytes. refl) (λ to bytes. refl) traces.cut traces.done;
+    shown = flat_map event_screen (part_of {S = S} traces.cut);
+    shown_part = screen_part S traces.cut;
+    screen = traces.stands.screen ∙ ap (λ (bytes : List ℕ). add before.screen bytes) (flat_map-append event_screen traces.done (part_of traces.cut));
+    logged = flat_map event_log (part_of {S = S} traces.cut);
+    logged_part = log_part S traces.cut;
+    log = traces.stands.log ∙ ap (λ (bytes : List ℕ). add before.log bytes) (flat_map-append event_log traces.done (part_of traces.cut));
+  }
 
 -- a count that did not rise, below its last value
 unrisen : (count : ℕ) → count < 2 ^ 64 - 1 → Rose count count → ⊥

@@ -3,7 +3,7 @@
 -- says which (LineProgram::names(self)). What acts is two functions, one that writes the reply and one that changes. A
 -- match with constants in its patterns closes with nothing; so does a guard before a _ that puts nothing, where the
 -- definition has a catch-all.
-use Rattle.std.proofs.Common.{◌≡◌, ◌≢◌, ℕ, Bool, true, false, List, Result, Ok, Err, inl, refl, sym, ap, ◌∙◌, arith}
+use Rattle.std.proofs.Common.{◌≡◌, ◌≢◌, ℕ, Bool, true, false, List, Result, Ok, Err, inl, refl, subst, sym, ap, ◌∙◌, arith}
 use Rattle.std.specs.Prelude.{Option, None, Some}
 use Rattle.cm_io.specs.Fault.{Rose}
 use Rattle.cm_state.specs.SessionState.{SessionState}
@@ -13,11 +13,11 @@ use Rattle.cm_state.specs.declared.turn.Turn.TheVariants as turn
 use Rattle.cm_run.specs.Cause.{Counts, RunCause, counts}
 use Rattle.cm_run.specs.Event.{Event, state_after}
 use Rattle.cm_run.specs.Idle.{EndsOnlyWhere, turn_at}
-use Rattle.cm_run.specs.Keeping.{HasPrintedPrompt, IsLineKeeping, is_line}
+use Rattle.cm_run.specs.Keeping.{HasPrintedPrompt, IsLineKeepingWhile, is_line}
 use Rattle.cm_run.specs.LineSemantics.{HasPrinted, LineSemantics, line_effect, line_mode, lines_only}
 use Rattle.cm_run.specs.LineRun.{LineCause}
 use Rattle.cm_run.specs.Semantics.{IsSparing}
-use Rattle.cm_run.specs.Trace.{RunState, step}
+use Rattle.cm_run.specs.Trace.{RunState, is_ended, step}
 use Rattle.cm_run.specs.declared.engine.TheConstants.{FILE_LINES}
 use Rattle.cm_run.specs.declared.mode.Mode.TheVariants as mode
 use Rattle.cm_run.specs.declared.stop.Stop.{Stop}
@@ -87,7 +87,7 @@ module _ {S : Type 0} (p : LineSemantics S) where
             (ap (λ (it : S). is_line (line_mode (p.line_of it))) (sym (confirmed_leaves at key line is)) ∙ over),
       )
 
-  -- its lines stay on the screen, where its prompts are printed
+  -- its lines stay on the screen, while its prompts are printed
   printed : (line : Option (ℕ × Prompt)) → HasPrinted line → HasPrintedPrompt (line_mode line)
   printed (Some line) is = is
   printed None is = tt
@@ -96,13 +96,39 @@ module _ {S : Type 0} (p : LineSemantics S) where
   never_raw (Some line) is = cc
   never_raw None is = cc
 
-  pub keeps_lines : ((state : S) → HasPrinted (p.line_of state)) → IsLineKeeping (lines_only p)
-  keeps_lines prompts = record {
-    prompts = λ state. printed (p.line_of state) (prompts state);
-    lines = λ state session moment. ends_effect (line_effect p state session) (lines_end (p.reply_of state session));
-    file_lines = λ state session moment. inl refl;
-    raw_keys = λ state key is line. absurd (never_raw (p.line_of state) is);
-  }
+  goes_on : (line : Option (ℕ × Prompt)) → is_ended (line_mode line) ≡ false → is_line (line_mode line) ≡ true
+  goes_on (Some line) going = refl
+  goes_on None going = absurd (cc)
+
+  module _ (Kept : S → Type 0) (prompts : (state : S) → Kept state → HasPrinted (p.line_of state))
+      (kept : (state : S) (session : SessionState) → Kept state → Kept (p.state_of state session)) where
+    -- a key leaves what a confirmed line leaves, or nothing else
+    key_leaves : (at : RunState S) (key : ℕ) → is_ended ((lines_only p).mode_of at.state) ≡ false → Kept at.state
+        → Kept (step (lines_only p) at key).state
+    key_leaves at key going is_kept = by (turn_at (lines_only p) at key) refl
+      where
+        line : is_line ((lines_only p).mode_of at.state) ≡ true
+        line = goes_on (p.line_of at.state) going
+
+        stays : (turn_at (lines_only p) at key ≡ turn.Confirmed → ⊥) → Kept (step (lines_only p) at key).state
+        stays other = subst Kept (sym (unconfirmed_stays at key line other)) is_kept
+
+        by : (to : Turn) → turn_at (lines_only p) at key ≡ to → Kept (step (lines_only p) at key).state
+        by turn.Confirmed is =
+            subst Kept (sym (confirmed_leaves at key line is)) (kept at.state (session_at (lines_only p) at key) is_kept)
+        by (turn.Refused fault) is = stays (λ done. let wrong : turn.Refused fault ≡ turn.Confirmed = sym is ∙ done in absurd (cc))
+        by turn.Abandoned is = stays (λ done. let wrong : turn.Abandoned ≡ turn.Confirmed = sym is ∙ done in absurd (cc))
+        by turn.Edited is = stays (λ done. let wrong : turn.Edited ≡ turn.Confirmed = sym is ∙ done in absurd (cc))
+        by turn.Failed is = stays (λ done. let wrong : turn.Failed ≡ turn.Confirmed = sym is ∙ done in absurd (cc))
+
+    pub keeps_lines : IsLineKeepingWhile Kept (lines_only p)
+    keeps_lines = record {
+      kept = key_leaves;
+      prompts = λ state is_kept. printed (p.line_of state) (prompts state is_kept);
+      lines = λ state session moment. ends_effect (line_effect p state session) (lines_end (p.reply_of state session));
+      file_lines = λ state session moment. inl refl;
+      raw_keys = λ state key is line. absurd (never_raw (p.line_of state) is);
+    }
 
   -- memory may run out for none of its acts
   pub line_spares : IsSparing (lines_only p)

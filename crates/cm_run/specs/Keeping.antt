@@ -9,7 +9,7 @@ use Rattle.cm_run.specs.Event.{screen_bytes}
 use Rattle.cm_run.specs.Semantics.{Semantics}
 use Rattle.cm_run.specs.Obey.{left_by, replies}
 use Rattle.cm_run.specs.Progress.{progress}
-use Rattle.cm_run.specs.Trace.{RunState, run_trace, starting}
+use Rattle.cm_run.specs.Trace.{RunState, is_ended, run_trace, starting, step}
 use Rattle.cm_run.specs.Shows.{EndsLine, IsEnded, Shows}
 
 -- where the next key is for a line, its prompt is printed bytes
@@ -29,6 +29,19 @@ is_line mode.Ended = false
 -- end with a line feed
 pub record IsLineKeeping {S : Type 0} (m : Semantics S) : Type 0 where
   pub prompts : (state : S) → HasPrintedPrompt (m.mode_of state)
+  pub lines : (state : S) (session : SessionState) (moment : ℕ)
+      → EndsLine (replies (m.line_effects state session moment))
+  pub file_lines : (state : S) (session : SessionState) (moment : ℕ)
+      → EndsLine (replies (m.file_line_effects state session moment))
+  pub raw_keys : (state : S) (key : ℕ) → m.mode_of state ≡ mode.Raw
+      → is_line (m.mode_of (left_by state (m.raw_effects state key))) ≡ true
+      → IsEnded (m.raw_echo state key ++ replies (m.raw_effects state key))
+
+-- the same of one whose prompts are printed while a fact of its state holds, as it does on after each key
+pub record IsLineKeepingWhile {S : Type 0} (Kept : S → Type 0) (m : Semantics S) : Type 0 where
+  pub kept : (at : RunState S) (key : ℕ) → is_ended (m.mode_of at.state) ≡ false → Kept at.state
+      → Kept (step m at key).state
+  pub prompts : (state : S) → Kept state → HasPrintedPrompt (m.mode_of state)
   pub lines : (state : S) (session : SessionState) (moment : ℕ)
       → EndsLine (replies (m.line_effects state session moment))
   pub file_lines : (state : S) (session : SessionState) (moment : ℕ)

@@ -1,6 +1,7 @@
 pub mod Cause
 pub mod Cut
 pub mod Event
+pub mod ExactCut
 pub mod Idle
 pub mod Keeping
 pub mod LastKey

@@ -101,6 +101,7 @@ pub trait Application {
         requires line { IsLineAt (means.mode_of self.old) session.now.node }
         requires parse { IsParse (setting_of means self.old) session.now.node (text_of session.now)
             session.now.fields session.now.ending }
+        // [joined-line] What is done is that of the line that waited, whose rows its hyphens have joined.
         ensures obeys { Obeys (stage (S.contents screen.old) self.old) (stage (S.contents screen.new) self.new)
             (means.file_line_effects self.old session.now moment) result }
         ensures later { S.faults screen.old ≤ S.faults screen.new }

@@ -38,7 +38,7 @@ pub fn run<A: Application, K: Source, S: Sink, W: Sink, C: Clock, L: Ledger>(
 ) -> Result<(), Stop>
     // The grammar is that of the application.
     requires grammar { grammar.now ≡ A.means.graph }
-    // [run-trace] What stands is the trace of the run, or a cut of it.
+    // [run-trace] [confirmation] What stands is the trace of the run, or a cut of it.
     ensures traces { IsTrue K.tells → IsTrue C.tells → Traces
         (observation (S.contents screen.old) (W.contents log.old) (K.left keys.old) (K.gets keys.old) (C.left clock.old)
         steps.old app.old)

@@ -1,5 +1,5 @@
 // Laws of every run, whatever the application, of what displays show of it, and of programs of lines alone.
-ghost use Rattle.std.specs.Prelude.{◌≡◌, ◌⊎◌, ◌+◌, ◌<◌, ◌^◌, ◌-◌, ℕ, Bool, false, List, [], ◌∷◌, ◌++◌, None, Result, Ok, Err, Option, IfSome, map, ◌≢◌, true};
+ghost use Rattle.std.specs.Prelude.{◌≡◌, ◌⊎◌, ◌<◌, ◌^◌, ◌-◌, ℕ, Bool, false, List, [], ◌∷◌, ◌++◌, None, Result, Ok, Err, Option, IfSome, map, ◌≢◌, true};
 ghost use Rattle.cm_text.specs.ScreenBytes.{screen_byte};
 ghost use Rattle.cm_text.specs.Text.{IsLine};
 ghost use Rattle.cm_text.specs.declared.text.TheConstants.{JOIN};
@@ -17,14 +17,15 @@ ghost use Rattle.cm_state.specs.Echo.{echo, has_join, prompt_text};
 ghost use Rattle.cm_state.specs.Edit.{edited};
 ghost use Rattle.cm_run.specs.Cause.{Counts, KeyCount, RunCause};
 ghost use Rattle.cm_run.specs.Cut.{Traces};
-ghost use Rattle.cm_run.specs.Event.{Act, Event, Log, Screen, Trials, gets_after, keys_of, log_bytes, moments_after, screen_bytes, state_after, trials_of};
+ghost use Rattle.cm_run.specs.Event.{Act, Event, Log, Screen, Trials, log_bytes, screen_bytes, state_after, trials_of};
+ghost use Rattle.cm_run.specs.ExactCut.{IsExactCut};
 ghost use Rattle.cm_run.specs.Semantics.{Semantics, setting_of};
 ghost use Rattle.cm_run.specs.Observation.{Observation};
 ghost use Rattle.cm_run.specs.Progress.{keys_cost, progress, keystroke_cost, MeetSound};
 ghost use Rattle.cm_run.specs.Trace.{RunState, events_if, key_trace, keystroke, run_trace, starting, turn_outcome, step};
 ghost use Rattle.cm_run.specs.declared.engine.TheConstants.{FILE_LINES};
 ghost use Rattle.cm_run.specs.declared.line_program.TheConstants.{LINE_KEYS};
-ghost use Rattle.cm_run.specs.Keeping.{IsLineKeeping, KeepsLine, is_line};
+ghost use Rattle.cm_run.specs.Keeping.{IsLineKeeping, IsLineKeepingWhile, KeepsLine, is_line};
 ghost use Rattle.cm_run.specs.Shows.{EndsLine, IsClear, Shows, ShowsAfter, row_after};
 ghost use Rattle.cm_run.specs.Sound.{IsSound};
 ghost use Rattle.cm_line.specs.declared.key.KeyClass.TheVariants as classes;
@@ -66,15 +67,13 @@ pub fn a_cut_run_is_a_beginning<A: Application>()
         → Traces before now events result → AddsPart before.log now.log (log_bytes events) }
 {}
 
-/// What is at a cut is exact: the keys that are taken and how often keys were asked for, the moments, the counter
-/// of trials and the state are those of the events before the one that was cut, and no key is taken after it.
+/// What is at a cut is exact. One event of the trace is cut, such as the answer says: bytes for the screen or for the
+/// log, a key or their end, memory, or that a key is asked for. The keys that are taken and how often keys were asked
+/// for, the moments, the counter of trials and the state are those of the events before it; screen and log have the
+/// bytes of those, and of its own a part.
 pub fn what_stands_at_a_cut_is_exact<A: Application>()
     ensures { (before now : Observation A) → (events : List (Event A)) → (why : Stop)
-        → Traces before now events (Err why)
-        → (done rest : List (Event A)) × (done ++ rest ≡ events)
-        × (keys_of done ++ now.keys ≡ before.keys) × (now.gets ≡ gets_after before.gets done)
-        × (now.moments ≡ moments_after before.moments done) × (now.trials ≡ before.trials + trials_of done)
-        × (now.state ≡ state_after before.state done) }
+        → Traces before now events (Err why) → IsExactCut why before now events }
 {}
 
 /// A run over more keys shows what the run over the first of them shows, and then more: so the bytes that a run has
@@ -215,14 +214,16 @@ pub fn a_line_program_changes_where_a_line_is_confirmed<P: LineProgram>()
         → test session ≡ true) → EndsOnlyWhere p test }
 {}
 
-/// A program of lines alone keeps its lines: its prompts are printed bytes, and what it shows are whole lines.
+/// A program of lines alone keeps its lines: what it shows are whole lines, each key keeps what the program keeps of
+/// its state, and while that holds the prompts are printed bytes.
 pub fn a_line_program_keeps_its_lines<P: LineProgram>()
-    ensures { IsLineKeeping (lines_only P.means) }
+    ensures { IsLineKeepingWhile P.keeps (lines_only P.means) }
 {}
 
-/// So after each beginning of the keys that its run has taken a display shows prompt and line, until it has ended.
+/// So where its state was such at first, after each beginning of the keys that its run has taken a display shows prompt
+/// and line, until it has ended.
 pub fn a_line_program_keeps_the_screen<P: LineProgram, D: Display>()
-    ensures { (before now : Observation P) → (result : Result Unit Stop) → LineRun P.means before now result
-        → (taken rest : List ℕ) → (taken ++ rest) ++ now.keys ≡ before.keys
+    ensures { (before now : Observation P) → (result : Result Unit Stop) → P.keeps before.state
+        → LineRun P.means before now result → (taken rest : List ℕ) → (taken ++ rest) ++ now.keys ≡ before.keys
         → KeepsLine D.feed D.holds (lines_only P.means) before.state [] taken }
 {}

@@ -32,7 +32,7 @@ pub trait LineProgram {
     ghost use Rattle.cm_io.specs.Writer.{Writes};
     ghost use Rattle.cm_blocks.specs.Parse.{IsParse};
     ghost use Rattle.cm_blocks.specs.declared.field.Ending.TheVariants as ending;
-    ghost use Rattle.cm_state.specs.SessionState.{text_of};
+    ghost use Rattle.cm_state.specs.SessionState.{SessionState, text_of};
     ghost use Rattle.cm_run.specs.LineSemantics.{HasPrinted, LineSemantics, line_mode, lines_only};
     ghost use Rattle.cm_run.specs.Semantics.{IsLineAt, setting_of};
 
@@ -45,8 +45,15 @@ pub trait LineProgram {
     /// What it means.
     ghost means: { LineSemantics Self };
 
-    /// Its prompts are printed bytes.
-    ghost prompts: { (state : Self) → HasPrinted (means.line_of state) };
+    /// What holds of its state as it begins, and on after each line that is confirmed. Where its prompts are fixed
+    /// texts that may be nothing, `Unit {0}`.
+    ghost keeps: { Self → Type 0 };
+
+    /// It holds on after each line that is confirmed.
+    ghost kept: { (state : Self) → (session : SessionState) → keeps state → keeps (means.state_of state session) };
+
+    /// While it holds, the prompts are printed bytes.
+    ghost prompts: { (state : Self) → keeps state → HasPrinted (means.line_of state) };
 
     /// The directories and files that a line may name now.
     fn names(&self) -> &Self::Names

@@ -1,37 +1,40 @@
-// A program of lines alone over the standard streams.
-ghost use Rattle.std.specs.Prelude.{◌≡◌, ◌≢◌, ◌<◌, Err};
+// A program of lines alone as a process runs it.
+ghost use Rattle.std.specs.Prelude.{◌≡◌, ◌<◌, ℕ, [], IsTrue};
+ghost use Rattle.cm_io.specs.Contents.{Number};
+ghost use Rattle.cm_run.specs.LineRun.{LineCause, LineRun};
+ghost use Rattle.cm_run.specs.Observation.{observation};
 
 use crate::{LineProgram, Stop, run_line_program};
 use cm_blocks::{Grammar, Steps};
-use cm_io::{Sink, Source, StdSink, StdSource};
+use cm_io::{Sink, Source};
 use std::marker::Brand;
 use std::sync::ledger::{Blank, Ledger};
 
-/// Runs a program of lines alone over the standard streams, as `run_line_program` does over any: so a `main` makes the
-/// grammar, calls this, and ends with the `status_of` its answer. Memory does not run out, and there is no log.
-pub fn run_over_streams<P: LineProgram>(
+/// Runs a program of lines alone, as `run_line_program` does, over keys and a screen that a `main` has made, as the
+/// standard streams are: the counter of trials is its own. So a `main` makes the grammar and the streams, calls this,
+/// and ends with the `status_of` its answer. Memory does not run out, and there is no log.
+pub fn run_over_streams<P: LineProgram, K: Source, S: Sink>(
     rt: &HostRuntime,
     program: &mut P,
     grammar: &Grammar,
+    keys: &mut K,
+    screen: &mut S,
 ) -> Result<(), Stop>
+    // The grammar is that of the program.
     requires grammar { grammar.now ≡ P.means.graph }
-    ensures memory { result ≢ Err Stop.Memory }
-    ensures log { result ≢ Err Stop.Log }
+    // What stands is the trace of the run, or a cut of it, from 0 trials on.
+    ensures stands { IsTrue K.tells → (trials : ℕ) × LineRun P.means
+        (observation (S.contents screen.old) (Number 0) (K.left keys.old) (K.gets keys.old) [] 0 program.old)
+        (observation (S.contents screen.new) (Number 0) (K.left keys.new) (K.gets keys.new) [] trials program.new)
+        result }
+    // When each answer comes, by the counts of faults.
+    ensures cause { LineCause (K.faults keys.old) (K.faults keys.new)
+        (S.faults screen.old) (S.faults screen.new) result }
 {
-    let mut keys = StdSource::new(rt);
-    let mut screen = StdSink::new(rt);
-    run_counted::<P, StdSource, StdSink, Brand>(
-        rt,
-        Blank::new(1),
-        program,
-        grammar,
-        &mut keys,
-        &mut screen,
-    )
+    run_counted::<P, K, S, Brand>(rt, Blank::new(1), program, grammar, keys, screen)
 }
 
 // Makes the counter of trials for this ledger, and runs the program.
-#[tactic(auto, unfolding(crate::specs::LineRun::LineCause))]
 fn run_counted<P: LineProgram, K: Source, S: Sink, L: Ledger>(
     rt: &HostRuntime,
     blank: Blank,
@@ -44,8 +47,12 @@ fn run_counted<P: LineProgram, K: Source, S: Sink, L: Ledger>(
     requires parts { blank.parts ≡ L.parts }
     requires some { 0 < L.parts }
     requires grammar { grammar.now ≡ P.means.graph }
-    ensures memory { result ≢ Err Stop.Memory }
-    ensures log { result ≢ Err Stop.Log }
+    ensures stands { IsTrue K.tells → (trials : ℕ) × LineRun P.means
+        (observation (S.contents screen.old) (Number 0) (K.left keys.old) (K.gets keys.old) [] 0 program.old)
+        (observation (S.contents screen.new) (Number 0) (K.left keys.new) (K.gets keys.new) [] trials program.new)
+        result }
+    ensures cause { LineCause (K.faults keys.old) (K.faults keys.new)
+        (S.faults screen.old) (S.faults screen.new) result }
 {
     let mut steps: Steps<L> = Steps::new(rt, blank);
     run_line_program(program, grammar, keys, screen, &mut steps)

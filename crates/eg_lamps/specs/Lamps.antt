@@ -4,7 +4,8 @@ use Rattle.std.specs.Prelude.{◌≡◌, ℕ, ◌-◌, ◌==◌, nat_le, true, i
 use Rattle.std.specs.Fmt.{decimal}
 use Rattle.std.specs.Option.{option_map_or}
 use Rattle.cm_text.specs.Bytes.{is_name, is_word}
-use Rattle.cm_hooks.specs.Among.{are_names}
+use Rattle.cm_hooks.specs.Among.{are_names, choice_meanings}
+use Rattle.cm_hooks.specs.Meanings.{Meanings, held_meanings}
 use Rattle.eg_lamps.specs.declared.lamps.Change.{Change}
 use Rattle.eg_lamps.specs.declared.lamps.Change.TheVariants.{Set, Dim, Note}
 use Rattle.eg_lamps.specs.declared.lamps.Command.{Command}
@@ -22,6 +23,10 @@ rooms_are_names = refl
 
 unfoldable pub room_help : List ℕ
 room_help = codes "room"
+
+-- hook 0 reads a room, and no other hook is held
+abbrev pub lamp_meanings : Meanings
+lamp_meanings = held_meanings 1 (choice_meanings rooms room_help)
 
 -- the lamp of a room, dark and with no note
 abbrev pub dark : List ℕ → Lamp

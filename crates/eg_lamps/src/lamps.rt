@@ -2,11 +2,14 @@
 ghost use Rattle.std.specs.Prelude.{◌≡◌, ◌≤◌, ◌++◌, length, map};
 ghost use Rattle.cm_text.specs.ScreenBytes.{end_of_line};
 ghost use Rattle.cm_text.specs.declared.name.TheConstants.{NAME_LIMIT};
+ghost use Rattle.cm_hooks.specs.Among.{choice_meanings};
+ghost use Rattle.cm_hooks.specs.AmongLaws.{choices_lawful};
 ghost use Rattle.cm_io.specs.Pieces.{shown_lines};
 ghost use Rattle.cm_io.specs.Writer.{Writes};
-ghost use Rattle.eg_lamps.specs.Lamps.{changed, dark, dark_lamps, lamp_line, obeyed, reply};
+ghost use Rattle.eg_lamps.specs.Lamps.{changed, dark, dark_lamps, lamp_line, obeyed, reply, room_help, rooms};
+ghost use Rattle.eg_lamps.specs.Lamps.{rooms_are_names};
 
-use cm_hooks::Choices;
+use cm_hooks::{Choices, RuleSet};
 use cm_io::{Sink, Writer};
 use cm_text::{NAME_LIMIT, Name, end_of_line};
 
@@ -51,13 +54,11 @@ pub enum Command {
     Quit,
 }
 
-/// What the program says of its one kind of field, a room.
+/// What is said of the one kind of field, a room: rules to be asked, and what functions that are stored are to mean.
 #[derive(Clone, Copy, Debug)]
 pub struct RoomRules;
 
 impl Choices for RoomRules {
-    ghost use Rattle.eg_lamps.specs.Lamps.{room_help, rooms, rooms_are_names};
-
     ghost choices = { rooms };
 
     ghost are_names = { rooms_are_names };
@@ -72,6 +73,12 @@ impl Choices for RoomRules {
     fn help(&self) -> Name {
         Name::new("room")
     }
+}
+
+impl RuleSet for RoomRules {
+    ghost meant = { choice_meanings rooms room_help };
+
+    ghost lawful = { choices_lawful rooms room_help rooms_are_names };
 }
 
 /// The lamps of all rooms, dark and with no notes.

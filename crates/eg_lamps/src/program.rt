@@ -1,32 +1,48 @@
 // The program: the lamps, which act by lines alone.
 ghost use Rattle.std.specs.Prelude.{◌≡◌};
-ghost use Rattle.eg_lamps.specs.Program.{lamp_start};
+ghost use Rattle.cm_files.specs.OneDirectory.{no_files};
+ghost use Rattle.eg_lamps.specs.Lamps.{lamp_meanings};
+ghost use Rattle.eg_lamps.specs.Program.{State, lamp_start};
 
 use crate::grammar::COMMANDS;
-use crate::{Command, Lamp, RoomRules, command_of, dark_lamps, obey, put_reply};
+use crate::{Command, Lamp, command_of, dark_lamps, obey, put_reply};
 use cm_blocks::Grammar;
 use cm_files::OneDirectory;
+use cm_hooks::Rules;
 use cm_io::{Sink, Writer};
 use cm_run::LineProgram;
 use cm_state::{Prompt, Session};
+use std::marker::Model;
 
-/// The program in its course.
+/// The program in its course, over any rules by which hook 0 reads a room. What it means names none of them.
 #[derive(Drop)]
-pub struct Program {
-    /// The names that a line may mean, for grammars that read files. This one reads none.
-    pub names: OneDirectory,
+pub struct Program<R: Rules> {
+    // What is said of a room.
+    rules: R,
+    // The names that a line may mean, for grammars that read files. This one reads none.
+    names: OneDirectory,
     /// The lamps, by the numbers of their rooms.
     pub lamps: [Lamp; 4],
     /// Whether QUIT has acted.
     pub has_quit: bool,
 }
 
-impl Program {
-    /// The program at its start: all lamps are dark.
-    pub fn new() -> Program
+impl<R: Rules> Model for Program<R> {
+    ghost Value = { State };
+
+    ghost view = { λ it. record { lamps = it.lamps; has_quit = it.has_quit } };
+
+    ghost invariant = { λ it. (R.meanings it.rules ≡ lamp_meanings) × (it.names ≡ no_files) };
+}
+
+impl<R: Rules> Program<R> {
+    /// The program at its start, over these rules: all lamps are dark.
+    pub fn new(rules: R) -> Program<R>
+        requires { R.meanings rules ≡ lamp_meanings }
         ensures { result ≡ lamp_start }
     {
         Program {
+            rules,
             names: OneDirectory::nothing(),
             lamps: dark_lamps(),
             has_quit: false,
@@ -34,25 +50,29 @@ impl Program {
     }
 }
 
-impl LineProgram for Program {
+impl<R: Rules> LineProgram for Program<R> {
     ghost use Rattle.cm_run.specs.PromptLaws.{main_until};
     ghost use Rattle.eg_lamps.specs.Program.{lamp_semantics};
     ghost use Rattle.eg_lamps.specs.declared.grammar.TheConstants.{COMMANDS};
 
-    type Rules = RoomRules;
+    type Rules = R;
 
     type Names = OneDirectory;
 
     ghost means = { lamp_semantics };
 
-    ghost prompts = { λ at. main_until at.has_quit COMMANDS };
+    ghost keeps = { λ at. Unit {0} };
+
+    ghost kept = { λ at session kept. kept };
+
+    ghost prompts = { λ at kept. main_until at.has_quit COMMANDS };
 
     fn names(&self) -> &OneDirectory {
         &self.names
     }
 
-    fn rules(&self) -> &RoomRules {
-        &RoomRules
+    fn rules(&self) -> &R {
+        &self.rules
     }
 
     #[tactic(auto, using(crate::proofs::Faultless::graph_nodes))]

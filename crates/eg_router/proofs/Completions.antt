@@ -1,16 +1,14 @@
 -- What completes the name of an interface is taken.
-use Rattle.std.proofs.Common.{◌≡◌, ℕ, ◌+◌, ◌==◌, nat_le, nat_lt, Bool, true, false, not, cond, ◌&&◌, ◌||◌, List, [], ◌∷◌, ◌++◌, length, take, drop, filter, refl, ap, arith, sym, subst, ◌∙◌}
+use Rattle.std.proofs.Common.{◌≡◌, ℕ, ◌==◌, nat_le, nat_lt, Bool, true, false, not, cond, ◌&&◌, ◌||◌, List, [], ◌∷◌, length, refl, ap, sym, ◌∙◌}
 use Rattle.std.specs.Char.{is_ascii_lowercase}
-use Rattle.std.specs.List.{enumerate_from, list_all}
+use Rattle.std.specs.List.{list_all}
 use Rattle.std.proofs.lemmas.Bool.{and_from, and_parts}
-use Rattle.std.proofs.lemmas.List.{take_all}
 use Rattle.cm_lists.proofs.Quantifiers.{all_weaker}
-use Rattle.cm_text.specs.BeginLaws.{begins_whole, length-whole}
 use Rattle.cm_text.specs.Bytes.{is_name, is_word}
-use Rattle.cm_text.specs.Case.{begins_with, equals}
+use Rattle.cm_text.specs.Case.{equals}
 use Rattle.cm_text.specs.declared.name.TheConstants.{NAME_LIMIT}
-use Rattle.cm_hooks.specs.Among.{are_names, completion_among, goes_on, is_name_text, rests, under, verdict_among}
-use Rattle.cm_hooks.specs.AmongLaws.{among_completes}
+use Rattle.cm_hooks.specs.Among.{are_names, completion_among, goes_on, has_name, is_name_text, rests, under, verdict_among}
+use Rattle.cm_hooks.specs.AmongLaws.{among_completes, one_whole}
 use Rattle.cm_hooks.specs.Meanings.{Completes, IsLawful, IsYes}
 use Rattle.cm_hooks.specs.declared.answer.Answer.{Answer}
 use Rattle.cm_hooks.specs.declared.answer.Tail.TheVariants as tails
@@ -45,45 +43,11 @@ texts (it ∷ more) named =
 pub are_texts : (interfaces : List Interface) → AreInterfaces interfaces → are_names (names_of interfaces) ≡ true
 are_texts interfaces are = texts interfaces are.names
 
--- a name is an atom that it begins with and what is left of it
-whole_equals : (name atom : List ℕ) → begins_with name atom ≡ true
-    → equals name (atom ++ drop (length atom) name) ≡ true
-unfolding begins_with
-whole_equals name atom begins =
-    let whole : List ℕ = atom ++ drop (length atom) name in
-    let size = length-whole name atom begins in
-    let all : take (length whole) name ≡ name = take_all (length whole) name (omega (arith, size)) in
-    ap (λ (text : List ℕ). equals text whole) (sym all) ∙ begins_whole name atom begins
-
--- where one name alone begins with an atom, the atom and what is left of the name is that name
-one_stands : (interfaces : List Interface) (number : ℕ) (atom : List ℕ) (one : ℕ × List ℕ)
-    → filter (λ (name : ℕ × List ℕ). begins_with name.1 atom) (enumerate_from number (names_of interfaces)) ≡ one ∷ []
-    → stands (atom ++ drop (length atom) one.1) interfaces ≡ true
-one_stands [] number atom one is = absurd (cc)
-one_stands (it ∷ more) number atom one is =
-    by (begins_with it.name atom) refl (one_stands more (number + 1) atom one) is
-  where
-    others : List (ℕ × List ℕ)
-    others = filter (λ (name : ℕ × List ℕ). begins_with name.1 atom) (enumerate_from (number + 1) (names_of more))
-
-    first : (a b : Bool) → a ≡ true → (a || b) ≡ true
-    first true b is = refl
-    first false b is = absurd (cc)
-
-    second : (a b : Bool) → b ≡ true → (a || b) ≡ true
-    second true b is = refl
-    second false b is = is
-
-    by : (b : Bool) → begins_with it.name atom ≡ b
-        → (others ≡ one ∷ [] → stands (atom ++ drop (length atom) one.1) more ≡ true)
-        → cond b ((number, it.name) ∷ others) others ≡ one ∷ []
-        → stands (atom ++ drop (length atom) one.1) (it ∷ more) ≡ true
-    by true begins rest is =
-        let same : (number, it.name) ≡ one = cc in
-        let name : it.name ≡ one.1 = ap (λ (pair : ℕ × List ℕ). pair.1) same in
-        first _ _ (subst (λ (text : List ℕ). equals it.name (atom ++ drop (length atom) text) ≡ true) name
-        (whole_equals it.name atom begins))
-    by false begins rest is = second _ _ (rest is)
+-- an interface stands where its name is among the names
+name_stands : (interfaces : List Interface) (atom : List ℕ)
+    → has_name (names_of interfaces) atom ≡ stands atom interfaces
+name_stands [] atom = refl
+name_stands (it ∷ more) atom = ap (λ (rest : Bool). equals it.name atom || rest) (name_stands more atom)
 
 -- a verdict that takes all names that stand takes what completes an atom to one
 completes : (interfaces : List Interface) → AreInterfaces interfaces → (verdict : List ℕ → Answer)
@@ -101,7 +65,8 @@ completes interfaces are verdict takes atom =
         → Completes verdict atom (goes_on (rests (length atom) those))
     found [] is one = tt
     found (name ∷ []) is one =
-        (one.0, record { short = one.1.short; taken = takes _ (one_stands interfaces 0 atom name is) })
+        let held = (one_whole names atom name is).2 in
+        (one.0, record { short = one.1.short; taken = takes _ (sym (name_stands interfaces _) ∙ held) })
     found (name ∷ other ∷ more) is one = one
 
     by : (b : Bool)

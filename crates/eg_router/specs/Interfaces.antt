@@ -70,3 +70,11 @@ without_name name interfaces = filter (λ (it : Interface). not (is_eq (by_bytes
 abbrev pub with_change : ℕ → Change → List Interface → List Interface
 with_change at change interfaces =
     option_map_or (λ (it : Interface). slice_set interfaces at (changed change it)) (slice_get interfaces at) interfaces
+
+-- the name of the one at this place, and none where there is none
+abbrev pub name_at : ℕ → List Interface → List ℕ
+name_at at interfaces = option_map_or (λ (it : Interface). it.name) (slice_get interfaces at) []
+
+-- each has a name
+abbrev pub are_named : List Interface → Bool
+are_named interfaces = list_all (λ (it : Interface). is_interface_name it.name) interfaces

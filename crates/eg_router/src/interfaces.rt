@@ -1,7 +1,8 @@
 // The interfaces of the router.
 ghost use Rattle.std.specs.Prelude.{◌≡◌, ◌≤◌, [], true, length};
 ghost use Rattle.std.specs.List.{list_all};
-ghost use Rattle.eg_router.specs.Interfaces.{AreInterfaces, has, is_interface_name, is_name_byte, may_enter, place, with_change, with_name, without_name};
+ghost use Rattle.cm_text.specs.declared.name.TheConstants.{NAME_LIMIT};
+ghost use Rattle.eg_router.specs.Interfaces.{AreInterfaces, has, is_interface_name, is_name_byte, may_enter, name_at, place, with_change, with_name, without_name};
 
 use crate::{Change, Interface};
 use arrayvec::ArrayVec;
@@ -46,6 +47,17 @@ impl Interfaces {
         ensures lawful { AreInterfaces self.now }
     {
         &self.items
+    }
+
+    /// The name of the interface at a place, and none where there is no such interface.
+    pub fn name_at(&self, at: usize) -> &str
+        ensures value { result.now ≡ name_at at self.now }
+        ensures within { length result.now ≤ NAME_LIMIT }
+    {
+        match self.as_slice().get(at) {
+            Some(it) => it.name.as_str(),
+            None => "",
+        }
     }
 
     /// Whether the interface of this name is there, or may be made: it is a name, of 1 to 39 capital letters, digits

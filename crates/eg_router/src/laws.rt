@@ -1,19 +1,28 @@
 // Laws of the router.
-ghost use Rattle.std.specs.Prelude.{◌≡◌, ◌≤◌, ℕ, List, [], map, true};
+ghost use Rattle.std.specs.Prelude.{◌≡◌, ◌≤◌, ℕ, List, [], ◌++◌, Result, map, true};
 ghost use Rattle.std.specs.Fmt.{decimal};
 ghost use Rattle.std.specs.List.{flat_map};
 ghost use Rattle.cm_fields.specs.Quoted.{unquoted};
 ghost use Rattle.cm_hooks.specs.Meanings.{IsYes};
 ghost use Rattle.cm_hooks.specs.declared.answer.Answer.TheVariants.{Yes};
+ghost use Rattle.cm_run.specs.Keeping.{KeepsLine};
+ghost use Rattle.cm_run.specs.LineRun.{LineRun};
+ghost use Rattle.cm_run.specs.LineSemantics.{lines_only};
+ghost use Rattle.cm_run.specs.Observation.{Observation};
 ghost use Rattle.eg_router.specs.Command.{upper};
 ghost use Rattle.eg_router.specs.Configuration.{configuration, listing, quoted_byte, typed};
 ghost use Rattle.eg_router.specs.Interfaces.{AreInterfaces, is_interface_name, may_enter};
 ghost use Rattle.eg_router.specs.Rules.{new_name_verdict, octet_verdict};
-ghost use Rattle.eg_router.specs.Router.{configuring, obeyed_all};
+ghost use Rattle.eg_router.specs.Program.{router_semantics};
+ghost use Rattle.eg_router.specs.Router.{configuring, obeyed_all, router_start};
 ghost use Rattle.eg_router.specs.declared.grammar.TheConstants.{ADDRESS, CONFIGURATION_LINES, CONFIGURE, DESCRIPTION, ENABLE, END, EXIT, INTERFACE, INTERFACE_LINES, LINE_END, NO, PRIVILEGED_LINES, PROTOCOL_LINES, ROUTER, RUNNING, SHOW, SHUTDOWN, USER_LINES, VERSION};
 ghost use Rattle.eg_router.specs.declared.interface.Interface.{Interface};
 ghost use Rattle.eg_router.specs.declared.interfaces.TheConstants.{INTERFACE_LIMIT};
 ghost use Rattle.eg_router.specs.declared.rules.TheConstants.{NAME, NEW_NAME, OCTET, OCTET_LIMIT};
+
+use crate::Router;
+use cm_run::laws::a_line_program_keeps_the_screen;
+use cm_run::{Display, Stop};
 
 /// The commands of the configuration, done by a new router in the mode of configuration, make the same interfaces, and
 /// leave it in that mode.
@@ -40,6 +49,17 @@ pub fn a_name_that_is_taken_may_be_entered()
     ensures { (interfaces : List Interface) → AreInterfaces interfaces → (atom : List ℕ)
         → IsYes (new_name_verdict atom interfaces) → may_enter (upper atom) interfaces ≡ true }
 {}
+
+/// After each beginning of the keys that the run of a new router has taken, a display shows prompt and line, until the
+/// router has ended: also where the prompt is the name of an interface that was made in the run.
+pub fn a_new_router_keeps_the_screen<D: Display>()
+    ensures { (before now : Observation Router) → (result : Result Unit Stop) → before.state ≡ router_start
+        → LineRun router_semantics before now result → (taken rest : List ℕ)
+        → (taken ++ rest) ++ now.keys ≡ before.keys
+        → KeepsLine D.feed D.holds (lines_only router_semantics) before.state [] taken }
+{
+    a_line_program_keeps_the_screen::<Router, D>();
+}
 
 /// The numbers of the router: the most interfaces, the largest number of an address, the hooks, the codes of the
 /// keywords, and the nodes where lines begin and where they end.

@@ -16,8 +16,11 @@ use cm_state::{Label, Prompt, Session};
 use cm_text::Name;
 
 impl LineProgram for Router {
+    ghost use Rattle.std.specs.Prelude.{◌≡◌, true};
+    ghost use Rattle.eg_router.specs.Command.{command_of};
+    ghost use Rattle.eg_router.specs.Interfaces.{are_named};
     ghost use Rattle.eg_router.specs.Program.{router_semantics};
-    ghost use Rattle.eg_router.specs.PromptLaws.{line_printed};
+    ghost use Rattle.eg_router.specs.PromptLaws.{line_printed, obeyed_named};
 
     type Rules = Interfaces;
 
@@ -25,7 +28,12 @@ impl LineProgram for Router {
 
     ghost means = { router_semantics };
 
-    ghost prompts = { λ at. line_printed at.mode };
+    // Each interface has a name, which is the prompt of its mode.
+    ghost keeps = { λ at. are_named at.interfaces ≡ true };
+
+    ghost kept = { λ at session named. obeyed_named (command_of session) at named };
+
+    ghost prompts = { λ at named. line_printed at.mode at.interfaces named };
 
     fn names(&self) -> &OneDirectory {
         &self.names
@@ -41,7 +49,9 @@ impl LineProgram for Router {
             Mode::User => Some((USER_LINES, prompt("router", b'>'))),
             Mode::Privileged => Some((PRIVILEGED_LINES, prompt("router", b'#'))),
             Mode::Configuration => Some((CONFIGURATION_LINES, prompt("router(config)", b'#'))),
-            Mode::Interface(_) => Some((INTERFACE_LINES, prompt("router(config-if)", b'#'))),
+            Mode::Interface(at) => {
+                Some((INTERFACE_LINES, prompt(self.interfaces.name_at(at), b'#')))
+            }
             Mode::Protocol => Some((PROTOCOL_LINES, prompt("router(config-router)", b'#'))),
             Mode::Ended => None,
         }

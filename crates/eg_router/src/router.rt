@@ -15,7 +15,7 @@ pub enum Mode {
     Privileged,
     /// After CONFIGURE TERMINAL, `router(config)#`.
     Configuration,
-    /// After INTERFACE, `router(config-if)#`: of the interface at this place.
+    /// After INTERFACE, its name and `#`: of the interface at this place.
     Interface(usize),
     /// After ROUTER, `router(config-router)#`.
     Protocol,

@@ -1,6 +1,7 @@
 //! The program of `./router`: the run of the router over the standard streams.
 #![tactic(auto)]
 
+use cm_io::{StdSink, StdSource};
 use cm_run::{Stop, run_over_streams, status_of};
 use eg_router::Router;
 use eg_router::grammar::grammar;
@@ -12,5 +13,8 @@ fn main(rt: HostRuntime) -> ExitCode {
         return ExitCode::from(status_of(Err(Stop::Memory)));
     };
     let mut router = Router::new();
-    ExitCode::from(status_of(run_over_streams(&rt, &mut router, &grammar)))
+    let mut keys = StdSource::new(&rt);
+    let mut screen = StdSink::new(&rt);
+    let outcome = run_over_streams(&rt, &mut router, &grammar, &mut keys, &mut screen);
+    ExitCode::from(status_of(outcome))
 }

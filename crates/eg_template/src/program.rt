@@ -46,7 +46,11 @@ impl LineProgram for Program {
 
     ghost means = { program_semantics };
 
-    ghost prompts = { λ at. main_until at.has_quit COMMANDS };
+    ghost keeps = { λ at. Unit {0} };
+
+    ghost kept = { λ at session kept. kept };
+
+    ghost prompts = { λ at kept. main_until at.has_quit COMMANDS };
 
     fn names(&self) -> &OneDirectory {
         &self.names

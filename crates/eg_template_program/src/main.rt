@@ -1,6 +1,7 @@
 //! The program of the template: its run over the standard streams.
 #![tactic(auto)]
 
+use cm_io::{StdSink, StdSource};
 use cm_run::{Stop, run_over_streams, status_of};
 use eg_template::Program;
 use eg_template::grammar::grammar;
@@ -12,5 +13,8 @@ fn main(rt: HostRuntime) -> ExitCode {
         return ExitCode::from(status_of(Err(Stop::Memory)));
     };
     let mut program = Program::new();
-    ExitCode::from(status_of(run_over_streams(&rt, &mut program, &grammar)))
+    let mut keys = StdSource::new(&rt);
+    let mut screen = StdSink::new(&rt);
+    let outcome = run_over_streams(&rt, &mut program, &grammar, &mut keys, &mut screen);
+    ExitCode::from(status_of(outcome))
 }
