@@ -4,7 +4,7 @@
 -- record (Past), so file and screen speak of one. What follows where the start is known is a record within it
 -- (Follows), whose premises are handed in once (one_start). (start : State) → app.old ≡ P.begins start → .. on a
 -- function that goes on from a beginning asks for no inverse of begins.
-use Rattle.std.proofs.Common.{◌≡◌, ℕ, Bool, IsTrue, List, [], ◌++◌, refl, sym, ◌∙◌, subst, inl, inr}
+use Rattle.std.proofs.Common.{◌≡◌, ℕ, Bool, IsTrue, List, [], ◌++◌, refl, sym, ◌∙◌, subst, inl, inr, arith}
 use Rattle.std.proofs.lemmas.List.{append_cancel_right}
 use Rattle.cm_lists.proofs.Pieces.{nil_of_append}
 use Rattle.cm_io.specs.Contents.{Contents}
@@ -29,6 +29,7 @@ use Rattle.ex_run.specs.Over.{Over}
 use Rattle.ex_run.specs.Scene.{Scene, Tell, Telling, with_screen}
 use Rattle.ex_run.proofs.Causes.{early_causes, early_not_done, early_not_usage, run_not_usage}
 use Rattle.ex_run.proofs.Ends.{done_counted, done_logged, done_saved, done_shown}
+use Rattle.ex_run.proofs.HaltedRuns.{early_not_halted, halted, most}
 use Rattle.ex_run.proofs.QuietEnds.{quiet_done, quiet_limit}
 
 module _ {S : Type 0} (known : Telling) (o : Over S) (keeping : IsLineKeeping o.means) (form : Form) where
@@ -55,6 +56,8 @@ module _ {S : Type 0} (known : Telling) (o : Over S) (keeping : IsLineKeeping o.
       counted = λ done. done_counted known o form start comes.left a b result comes.ran done tells;
       saved = λ tell done. done_saved known o form start comes.left a b result comes.ran done loaded now tells
           (subst (λ (it : Bool). IsTrue it) (sym loads.tells) tell) comes.saves;
+      most = most known o form start comes.left a b result comes.ran tells;
+      halted = λ halt taken all. halted known o form start comes.left a b result comes.ran tells halt taken all;
       on_screen = λ taken rest all.
           run_keeps o.means keeping feed Holds screen_is_a_display (o.begins start) a.moments taken (comes.sound tells taken rest all);
     }
@@ -105,6 +108,8 @@ module _ {S : Type 0} (known : Telling) (o : Over S) (keeping : IsLineKeeping o.
       logged = λ done. no_done done;
       counted = λ done. no_done done;
       saved = λ tell done. no_done done;
+      most = omega arith;
+      halted = λ halt taken all. absurd (early_not_halted form.input why early halt);
       on_screen = λ taken rest all. none_taken start a.moments a.keys a.keys taken rest refl all;
     }
 

@@ -1,5 +1,5 @@
 -- All that is known of a run over a store.
-use Rattle.std.specs.Prelude.{◌≡◌, ◌⊎◌, ◌<◌, ◌+◌, ℕ, Bool, false, List, [], ◌++◌, length, Option, Some, None, IsTrue, Result, Ok}
+use Rattle.std.specs.Prelude.{◌≡◌, ◌⊎◌, ◌≤◌, ◌<◌, ◌+◌, ℕ, Bool, false, List, [], ◌++◌, length, Option, Some, None, IsTrue, Result, Ok}
 use Rattle.cm_io.specs.Contents.{add}
 use Rattle.cm_io.specs.declared.status.Status.{Status}
 use Rattle.cm_io.specs.declared.status.Status.TheVariants as status
@@ -36,6 +36,10 @@ pub record Shown (a b : Scene) (text : List ℕ) : Type 0 where
 -- the message of a status is
 abbrev pub Refused : Scene → Scene → Status → Type 0
 Refused a b result = Shown a b (message result)
+
+-- the keys could not be read on, or as many were taken as a run takes
+abbrev pub IsHalt : Status → Type 0
+IsHalt result = (result ≡ status.ReadFault) ⊎ (result ≡ status.KeyLimit)
 
 -- nothing outside has failed
 pub record AreQuiet (a b : Scene) (before now : Disk) : Type 0 where
@@ -74,10 +78,16 @@ module _ {S : Type 0} where
       (IsEarly form.input result × Refused a b result × IsLoaded form.input before now)
       ⊎ Past known o form a b before now result
 
+  -- of a run that was halted over these keys: the counter has risen by what their trials cost, and the application has
+  -- not ended it
+  pub record Halted (o : Over S) (form : Form) (start : State) (a b : Scene) (taken : List ℕ) : Type 0 where
+    pub counted : b.trials ≡ a.trials + trials_of (trace_of o form.logs start a.moments taken)
+    pub going : has_ended o (left_of o form.logs start a.moments taken) ≡ false
+
   -- of a run that is to begin over a store in this state, keys and clock telling. Where it is Done, the screen was
   -- given what the run over all keys shows, the log what it logs, the counter has risen by what all trials cost, and
-  -- OUT holds the image of the state that the keys leave. After each beginning of the keys taken the screen shows
-  -- prompt and line
+  -- OUT holds the image of the state that the keys leave. The counter never rises by more than that. Where the run was
+  -- halted, it was so over the keys taken. After each beginning of them the screen shows prompt and line
   pub record Follows (o : Over S) (form : Form) (start : State) (a b : Scene) (before now : Disk) (result : Status)
       : Type 0 where
     pub shown : result ≡ status.Done → b.screen ≡ add a.screen (shown_of o form.logs start a.moments a.keys)
@@ -87,6 +97,8 @@ module _ {S : Type 0} where
         → b.trials ≡ a.trials + trials_of (trace_of o form.logs start a.moments a.keys)
     pub saved : IsTrue before.tells → result ≡ status.Done
         → now.files form.out ≡ Some (image_text (o.store_of (left_of o form.logs start a.moments a.keys)))
+    pub most : b.trials ≤ a.trials + trials_of (trace_of o form.logs start a.moments a.keys)
+    pub halted : IsHalt result → (taken : List ℕ) → taken ++ b.keys ≡ a.keys → Halted o form start a b taken
     pub on_screen : (taken rest : List ℕ) → (taken ++ rest) ++ b.keys ≡ a.keys
         → KeepsLine feed Holds o.means (o.begins start) a.moments taken
 

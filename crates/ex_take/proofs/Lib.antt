@@ -12,6 +12,7 @@ mod PendingCommands
 mod Quiet
 pub mod QuietKeys
 mod QuietLines
+mod Refusals
 mod Replies
 pub mod Rests
 pub mod Sequels

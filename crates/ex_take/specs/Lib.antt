@@ -6,5 +6,6 @@ pub mod Lines
 pub mod Logout
 pub mod Outcome
 pub mod Quiet
+pub mod Refusals
 pub mod Reply
 pub mod Taking

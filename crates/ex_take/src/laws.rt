@@ -1,9 +1,8 @@
 //! Laws of the EXEC with its command files. Each is a function that does nothing, whose contract is the law.
-ghost use Rattle.std.specs.Prelude.{◌≡◌, ◌≢◌, ℕ, List, Err, Some, true, false};
+ghost use Rattle.std.specs.Prelude.{◌≡◌, ◌≢◌, ◌<◌, ℕ, List, Err, Some, true, false};
 ghost use Rattle.cm_line.specs.Keys.{class_at};
 ghost use Rattle.cm_line.specs.declared.key.KeyClass.TheVariants as classes;
 ghost use Rattle.cm_fields.specs.declared.code.Code.{Code};
-ghost use Rattle.cm_blocks.specs.declared.field.Ending.TheVariants as endings;
 ghost use Rattle.cm_blocks.specs.declared.field.Fault.{Fault};
 ghost use Rattle.cm_state.specs.SessionState.{SessionState, line_before};
 ghost use Rattle.cm_state.specs.declared.turn.Turn.TheVariants as turn;
@@ -13,19 +12,21 @@ ghost use Rattle.cm_run.specs.Idle.{turn_at};
 ghost use Rattle.cm_run.specs.Keeping.{IsLineKeeping, is_line};
 ghost use Rattle.cm_run.specs.Obey.{left_by};
 ghost use Rattle.cm_run.specs.Observation.{Observation};
-ghost use Rattle.cm_run.specs.Trace.{RunState, step};
+ghost use Rattle.cm_run.specs.Trace.{RunState, file_session, line_start, next_line, run_state, step};
+ghost use Rattle.cm_run.specs.declared.engine.TheConstants.{FILE_LINES};
 ghost use Rattle.cm_run.specs.declared.stop.Stop.{Stop};
 ghost use Rattle.ex_store.specs.State.{State};
 ghost use Rattle.ex_commands.specs.Act.{act_of};
 ghost use Rattle.ex_commands.specs.declared.acted.Acted.TheVariants as answers;
 ghost use Rattle.ex_commands.specs.declared.command.Command.{Command};
 ghost use Rattle.ex_commands.specs.declared.command.Command.TheVariants as commands;
-ghost use Rattle.ex_take.specs.Interpreter.{completion, effect_of, raw_by};
+ghost use Rattle.ex_take.specs.Interpreter.{completion, completion_answer, effect_of, pending_complete, raw_answer, raw_by};
 ghost use Rattle.ex_take.specs.InterpreterState.{InterpreterState};
-ghost use Rattle.ex_take.specs.Exec.{acts, counted, exec_semantics, file_line_effects, looks_ahead, unwaiting};
+ghost use Rattle.ex_take.specs.Exec.{acts, counted, exec_semantics, file_line_effects, innermost, is_over, line_effects, looks_ahead, next_fault, settles, stopped, unwaiting};
 ghost use Rattle.ex_take.specs.ExecState.{ExecState, exec_start};
-ghost use Rattle.ex_take.specs.Logout.{ConfirmsLogout};
+ghost use Rattle.ex_take.specs.Logout.{ConfirmsLogout, after_lines, moment_of, session_at};
 ghost use Rattle.ex_take.specs.Quiet.{IsQuiet, IsQuietUnlessEnded};
+ghost use Rattle.ex_take.specs.Refusals.{file_line_code, line_code, stopped_by, unwritten};
 ghost use Rattle.ex_take.specs.Reply.{StandsAsShown};
 ghost use Rattle.ex_take.specs.declared.pending.Pending.{Pending};
 ghost use Rattle.ex_take.specs.declared.exec.TheConstants.{MOST_FILES};
@@ -79,23 +80,56 @@ pub fn the_exec_keeps_its_lines()
     ensures { IsLineKeeping exec_semantics }
 {}
 
-/// A line that is refused changes no directory and no file. A typed one is counted, and one that control-C gives up
-/// drops the command that waits, and no more. One of a command file closes the files that are open, be it refused by
-/// its parse, before it is parsed, or by what it commands.
+/// A line that is refused changes no directory and no file, and each way of it leaves exactly this. A typed one that is
+/// refused by its parse is counted, takes no moment, and the next line is of the same kind; one that control-C gives up
+/// drops the command that waits, and no more. Each other is counted, drops the command that waits, as a BUILD, and
+/// closes the files that are open: a typed line, or one of subcommands, the empty one too, that is refused by what it
+/// commands; a line of a command file, refused by its parse, before it is parsed or by what it commands; and a command
+/// that waits, and is refused at the end of its file. No line is taken after it, so that this is all that the whole
+/// step leaves. A file that is typed in, and refused at control-Z, is dropped and counted, and no more.
 pub fn a_refused_line_changes_nothing()
+    ensures files { (at : ExecState) → (code : Code)
+        → ((stopped code at).interpreter.state ≡ at.interpreter.state)
+        × ((counted at).interpreter.state ≡ at.interpreter.state)
+        × ((unwaiting at).interpreter.state ≡ at.interpreter.state)
+        × ((unwritten at).interpreter.state ≡ at.interpreter.state) }
     ensures typed { (at : RunState ExecState) → (key : ℕ) → (fault : Fault)
         → is_line (exec_semantics.mode_of at.state) ≡ true → turn_at exec_semantics at key ≡ turn.Refused fault
-        → (step exec_semantics at key).state ≡ counted at.state }
+        → step exec_semantics at key
+        ≡ run_state (line_start (exec_semantics.mode_of at.state) (session_at at key)) (counted at.state) at.moments }
     ensures given_up { (at : RunState ExecState) → (key : ℕ)
         → is_line (exec_semantics.mode_of at.state) ≡ true → turn_at exec_semantics at key ≡ turn.Abandoned
-        → (step exec_semantics at key).state ≡ unwaiting at.state }
-    ensures file { (at : ExecState) → (session : SessionState) → (moment : ℕ) → (fault : Fault)
-        → session.ending ≡ endings.Fault fault
-        → (left_by at (file_line_effects at session moment)).interpreter.state ≡ at.interpreter.state }
-    ensures ahead { (at : ExecState) → (left_by at (looks_ahead at)).interpreter.state ≡ at.interpreter.state }
+        → step exec_semantics at key
+        ≡ run_state (line_start (exec_semantics.mode_of (unwaiting at.state)) (session_at at key)) (unwaiting at.state)
+        at.moments }
+    ensures commanded { (at : RunState ExecState) → (key : ℕ) → (code : Code)
+        → is_line (exec_semantics.mode_of at.state) ≡ true → turn_at exec_semantics at key ≡ turn.Confirmed
+        → line_code at.state (session_at at key) (moment_of at) ≡ Some code
+        → (step exec_semantics at key).state ≡ stopped code at.state }
+    ensures taken { (at : RunState ExecState) → (key : ℕ) → (lines : ℕ) → (line : List ℕ) → (code : Code)
+        → (left : ExecState) → is_line (exec_semantics.mode_of at.state) ≡ true
+        → turn_at exec_semantics at key ≡ turn.Confirmed
+        → left ≡ left_by at.state (line_effects at.state (session_at at key) (moment_of at)) → lines < FILE_LINES
+        → next_line exec_semantics (after_lines (moment_of at) left lines) ≡ Some line
+        → file_line_code (after_lines (moment_of at) left lines)
+        (file_session exec_semantics (after_lines (moment_of at) left lines) line) (moment_of at) ≡ Some code
+        → (step exec_semantics at key).state ≡ stopped code (after_lines (moment_of at) left lines) }
+    ensures written { (at : RunState ExecState) → (key : ℕ) → (code : Code)
+        → is_line (exec_semantics.mode_of at.state) ≡ false
+        → raw_answer at.state.interpreter key at.state.interpreter.typing ≡ answers.Refused code
+        → (step exec_semantics at key).state ≡ unwritten at.state }
+    ensures file { (at : ExecState) → (session : SessionState) → (moment : ℕ) → (code : Code)
+        → file_line_code at session moment ≡ Some code
+        → left_by at (file_line_effects at session moment) ≡ stopped code at }
+    ensures ahead { (at : ExecState)
+        → left_by at (looks_ahead at) ≡ stopped_by (next_fault at.taken (innermost at.files)) at }
+    ensures end { (at : ExecState) → (pending : Pending) → (code : Code) → at.interpreter.pending ≡ Some pending
+        → is_over (innermost at.files) ≡ true
+        → completion_answer at.interpreter (pending_complete pending) ≡ answers.Refused code
+        → left_by at (settles at) ≡ stopped code at }
     ensures act { (at : ExecState) → (moment : ℕ) → (command : Command) → (code : Code)
         → (act_of command moment at.interpreter.state).answer ≡ answers.Refused code
-        → (left_by at (acts at moment command)).interpreter.state ≡ at.interpreter.state }
+        → left_by at (acts at moment command) ≡ stopped code at }
 {}
 
 /// The bytes that are shown tell what has acted, where a run or a command file is cut short, be it by the screen, by
