@@ -10,7 +10,7 @@ use Rattle.cm_run.proofs.Joins.{traces_cut}
 use Rattle.cm_run.proofs.Course.{Ahead, ahead_all, ahead_first, ahead_more, ahead_trace}
 use Rattle.ex_take.specs.ExecState.{ExecState}
 use Rattle.ex_batch.specs.Batch.{Batch, Step, batch_from, joined, limit_end, line_step}
-use Rattle.ex_batch.specs.Takes.{Takes}
+use Rattle.ex_batch.specs.Takes.{Runs, Takes}
 use Rattle.ex_batch.specs.declared.step.Ended.{Ended}
 use Rattle.ex_batch.specs.declared.step.Next.{Next}
 use Rattle.ex_batch.specs.declared.step.Next.TheVariants.{Line, Over}
@@ -58,22 +58,21 @@ module _ (lines : List (List ℕ)) (limit : ℕ) (a b : Observation ExecState) (
 
   -- or it is cut short
   pub way_cut : (c : Observation ExecState) (used place : ℕ) (why : Stop) → used < limit
-      → Takes b c (step_at place) (Err why) → OnWay a b (left_at used b (Line place)) whole → Traces a c whole.events (Err why)
+      → Takes b c (step_at place) (Err why) → OnWay a b (left_at used b (Line place)) whole → Runs a c whole (Err why)
   way_cut c used place why below takes way =
       let step : Step = step_at place in
       let rest : Batch = batch_from lines (limit - (used + 1)) (moments_after b.moments step.events) (state_after b.state step.events) step.next in
       let now : OnWay a b (joined step rest) whole = subst (λ (it : Batch). OnWay a b it whole) (split used place below) way in
-      ahead_trace a b c (step.events ++ rest.events) whole.events (Err why) now.ahead
-      (traces_cut b c step.events rest.events why takes.traces)
+      record {
+        traces = ahead_trace a b c (step.events ++ rest.events) whole.events (Err why) now.ahead
+            (traces_cut b c step.events rest.events why takes.traces);
+        end = tt;
+      }
 
   -- the run is over
-  pub over_traces : (used : ℕ) (end : Ended) → OnWay a b (left_at used b (Over end)) whole → Traces a b whole.events (Ok tt)
+  pub over_runs : (used : ℕ) (end : Ended) → OnWay a b (left_at used b (Over end)) whole → Runs a b whole (Ok end)
   unfolding batch_from
-  over_traces used end way = ahead_all a b whole.events tt way.ahead
-
-  pub over_end : (used : ℕ) (end : Ended) → OnWay a b (left_at used b (Over end)) whole → end ≡ whole.end
-  unfolding batch_from
-  over_end used end way = way.ends
+  over_runs used end way = record { traces = ahead_all a b whole.events tt way.ahead; end = way.ends }
 
   -- as many lines were used as may be
   none_left : (used place : ℕ) → limit ≤ used → left_at used b (Line place) ≡ record { events = []; end = limit_end (slice_get lines place) }
@@ -86,9 +85,8 @@ module _ (lines : List (List ℕ)) (limit : ℕ) (a b : Observation ExecState) (
       → OnWay a b (record { events = []; end = limit_end (slice_get lines place) }) whole
   full_way used place full way = subst (λ (it : Batch). OnWay a b it whole) (none_left used place full) way
 
-  pub full_traces : (used place : ℕ) → limit ≤ used → OnWay a b (left_at used b (Line place)) whole → Traces a b whole.events (Ok tt)
-  full_traces used place full way = ahead_all a b whole.events tt (full_way used place full way).ahead
-
-  pub full_end : (used place : ℕ) (end : Ended) → limit ≤ used → end ≡ limit_end (slice_get lines place)
-      → OnWay a b (left_at used b (Line place)) whole → end ≡ whole.end
-  full_end used place end full is way = is ∙ (full_way used place full way).ends
+  pub full_runs : (used place : ℕ) (end : Ended) → limit ≤ used → end ≡ limit_end (slice_get lines place)
+      → OnWay a b (left_at used b (Line place)) whole → Runs a b whole (Ok end)
+  full_runs used place end full is way =
+      let now = full_way used place full way in
+      record { traces = ahead_all a b whole.events tt now.ahead; end = is ∙ now.ends }

@@ -3,6 +3,7 @@ use Rattle.std.proofs.Common.{◌≡◌, ◌≤◌, ℕ, zero, suc, true, false,
 use Rattle.std.specs.Prelude.{slice_get}
 use Rattle.cm_text.specs.Text.{finished}
 use Rattle.cm_fields.specs.declared.code.Code.{Code}
+use Rattle.cm_fields.specs.declared.code.Code.TheVariants.{BadLine}
 use Rattle.cm_blocks.specs.KeptParse.{cost}
 use Rattle.cm_blocks.specs.declared.field.Ending.{Ending}
 use Rattle.cm_blocks.specs.declared.field.Ending.TheVariants as endings
@@ -14,7 +15,7 @@ use Rattle.cm_run.specs.Semantics.{setting_of}
 use Rattle.cm_run.specs.Obey.{left_by}
 use Rattle.cm_run.specs.Trace.{effects_trace, file_session, line_trace, node_of}
 use Rattle.ex_commands.specs.declared.command.Command.{Command}
-use Rattle.ex_take.specs.Exec.{command_effects, exec_semantics, line_effects}
+use Rattle.ex_take.specs.Exec.{command_effects, exec_semantics, line_effects, stopped}
 use Rattle.ex_take.specs.ExecState.{ExecState}
 use Rattle.ex_take.specs.Interpreter.{command_at}
 use Rattle.ex_take.specs.Taking.{is_at_rest}
@@ -73,17 +74,16 @@ module _ (at : ExecState) (text : List ℕ) (moment : ℕ) (rests : is_at_rest a
   line_as_typed done free = handed_as at text moment rests (line_effects at session moment) (same_effects done free)
 
 -- refused lines
-pub text_unchanged : (at : ExecState) (text : List ℕ) (moment : ℕ) → is_parsable text ≡ false
-    → (state_after at (text_trace moment at text)).interpreter.state ≡ at.interpreter.state
+pub text_stopped : (at : ExecState) (text : List ℕ) (moment : ℕ) → is_parsable text ≡ false
+    → state_after at (text_trace moment at text) ≡ stopped BadLine at
 unfolding effects_trace
-text_unchanged at text moment is = rw is refl
+text_stopped at text moment is = rw is refl
 
-pub parse_unchanged : (at : ExecState) (session : SessionState) (moment : ℕ) (fault : Fault)
-    → (left_by at (order_effects at session moment (endings.Fault fault))).interpreter.state ≡ at.interpreter.state
+pub parse_stopped : (at : ExecState) (session : SessionState) (moment : ℕ) (fault : Fault)
+    → left_by at (order_effects at session moment (endings.Fault fault)) ≡ stopped fault.code at
 unfolding order_effects
-parse_unchanged at it moment fault = refl
+parse_stopped at it moment fault = refl
 
-pub barred_unchanged : (at : ExecState) (moment : ℕ) (command : Command) (code : Code) → bar_of command ≡ Some code
-    → (left_by at (job_effects at moment command)).interpreter.state ≡ at.interpreter.state
-barred_unchanged at moment command code is =
-    ap (λ (it : Option Code). (left_by at (unless_barred at moment command it)).interpreter.state) is
+pub barred_stopped : (at : ExecState) (moment : ℕ) (command : Command) (code : Code) → bar_of command ≡ Some code
+    → left_by at (job_effects at moment command) ≡ stopped code at
+barred_stopped at moment command code is = ap (λ (it : Option Code). left_by at (unless_barred at moment command it)) is

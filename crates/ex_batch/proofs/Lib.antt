@@ -1,3 +1,4 @@
+mod Clocks
 mod Courses
 mod Ends
 mod FileNames

@@ -25,6 +25,7 @@ use Rattle.ex_system.proofs.Trials.{tried_after}
 use Rattle.ex_take.specs.ExecState.{ExecState, exec_start}
 use Rattle.ex_batch.specs.Batch.{Batch}
 use Rattle.ex_batch.specs.Heads.{Heads}
+use Rattle.ex_batch.specs.Moments.{OfMoments}
 use Rattle.cm_text.specs.ScreenBytes.{end_of_line}
 use Rattle.ex_batch.specs.RunEnd.{Course, Follows, IsBatch, IsWhole, JobForm, Past, Scene, ScreenCause, ShowsEnd, Stands, StartCause, closing, end_status, end_text, seen, status_of, usage, with_screen}
 use Rattle.ex_batch.specs.Takes.{step_outcome}
@@ -67,9 +68,9 @@ module _ (known : Type 0) (asked : JobForm) (a b : Scene) (before now : Disk) (w
     (host : HostCause before.faults now.faults why)
     (tried : Tried a.screen b.screen a.faults b.faults [] (message why)) (loads : IsLoaded asked.form.input before now)
     (rest : b ≡ with_screen a b.screen b.faults) where
-  early_follows : (start : State) → Starts before asked.form.input start
-      → Follows asked.file asked.form.out start a b before now why
-  early_follows start starts =
+  early_follows : (start : State) → Starts before asked.form.input start → (moments : List ℕ)
+      → Follows asked.file asked.form.out start a b before now why moments
+  early_follows start starts moments =
       let stays : b.trials ≡ a.trials = ap (λ (it : Scene). it.trials) rest in
       record {
         ends = λ whole. absurd (early_whole asked.form.input why early whole);
@@ -88,7 +89,8 @@ module _ (known : Type 0) (asked : JobForm) (a b : Scene) (before now : Disk) (w
     cause = early_screen asked.form.input a.faults b.faults why early;
     host_cause = host;
     start = cause;
-    follows = λ tells start starts. early_follows start starts;
+    follows = λ start starts.
+        record { moments = a.moments; own = λ _. refl; holds = early_follows start starts a.moments };
   }
 
   pub course_early : Course known asked a b before now result
@@ -107,7 +109,7 @@ module _ (known : Type 0) (asked : JobForm) (a b : Scene) (before now : Disk) (r
   at = past.at
 
   abbrev job : Batch
-  job = whole_of past.start asked.file a.moments
+  job = whole_of past.start asked.file past.ran.given
 
   is_run : IsRun result
   is_run = of_status IsRun tt tt tt tt tt past.how result past.closes.ends
@@ -122,17 +124,17 @@ module _ (known : Type 0) (asked : JobForm) (a b : Scene) (before now : Disk) (r
   counts = ap (λ (it : Scene). it.trials) past.rest
 
   -- where it is whole
-  module _ (tells : known) (whole : IsWhole result) where
+  module _ (whole : IsWhole result) where
     went_to : WentWhole past.how result
     went_to = went_whole past.how result past.closes.ends whole
 
     ends : went_to.end ≡ job.end
-    ends = subst (λ (it : Result Ended Stop). IfOk it (λ end. end ≡ job.end)) went_to.how_is (past.ran.end tells)
+    ends = subst (λ (it : Result Ended Stop). IfOk it (λ end. end ≡ job.end)) went_to.how_is past.ran.runs.end
 
-    all : Between (seen a (exec_start past.start)) (seen at past.left) job.events
+    all : Between (seen a past.ran.given (exec_start past.start)) (seen at past.ran.later past.left) job.events
     unfolding Traces Performs
-    all = subst (λ (it : Result Ended Stop). Traces (seen a (exec_start past.start)) (seen at past.left) job.events (step_outcome it))
-        went_to.how_is (past.ran.traces tells)
+    all = subst (λ (it : Result Ended Stop). Traces (seen a past.ran.given (exec_start past.start)) (seen at past.ran.later past.left) job.events (step_outcome it))
+        went_to.how_is past.ran.runs.traces
 
     stays : at.faults ≡ a.faults
     unfolding ObeyCause
@@ -164,16 +166,17 @@ module _ (known : Type 0) (asked : JobForm) (a b : Scene) (before now : Disk) (r
         ∙ ap (λ (it : ExecState). Some (image_text it.interpreter.state)) all.state
 
   -- and however it went
-  most : known → b.trials ≤ a.trials + trials_of job.events
-  most tells =
+  most : b.trials ≤ a.trials + trials_of job.events
+  most =
       let few : at.trials ≤ a.trials + trials_of job.events =
-      cut_most (seen a (exec_start past.start)) (seen at past.left) job.events (step_outcome past.how) (past.ran.traces tells) in
+      cut_most (seen a past.ran.given (exec_start past.start)) (seen at past.ran.later past.left) job.events (step_outcome past.how)
+      past.ran.runs.traces in
       omega (arith, few, counts)
 
-  complete : known → IsQuiet a.faults b.faults → IsQuiet before.faults now.faults
+  complete : IsQuiet a.faults b.faults → IsQuiet before.faults now.faults
       → (result ≡ end_status job.end) ⊎ (result ≡ status.NoMemory)
   unfolding ObeyCause
-  complete tells screen host = by past.how past.ran.cause (past.ran.end tells) past.closes.ends
+  complete screen host = by past.how past.ran.cause past.ran.runs.end past.closes.ends
     where
       by : (how : Result Ended Stop) → ObeyCause a.faults at.faults (step_outcome how) → IfOk how (λ end. end ≡ job.end)
           → IsOr result (status_of how) → (result ≡ end_status job.end) ⊎ (result ≡ status.NoMemory)
@@ -187,14 +190,14 @@ module _ (known : Type 0) (asked : JobForm) (a b : Scene) (before now : Disk) (r
       by (Err stop.Keys) cause end (inl is) = absurd cause
       by (Err stop.Limit) cause end (inl is) = absurd cause
 
-  follows : known → Follows asked.file asked.form.out past.start a b before now result
-  follows tells = record {
-    ends = whole_status tells;
-    shown = whole_shown tells;
-    counted = whole_counted tells;
-    saved = whole_saved tells;
-    most = most tells;
-    complete = complete tells;
+  follows : Follows asked.file asked.form.out past.start a b before now result past.ran.given
+  follows = record {
+    ends = whole_status;
+    shown = whole_shown;
+    counted = whole_counted;
+    saved = whole_saved;
+    most = most;
+    complete = complete;
   }
 
   pub course_past : Course known asked a b before now result
@@ -205,9 +208,12 @@ module _ (known : Type 0) (asked : JobForm) (a b : Scene) (before now : Disk) (r
     cause = shows;
     host_cause = saves;
     start = began_cause before asked.form.input past.start result past.begins.2 is_run;
-    follows = λ tells start starts.
-        subst (λ (it : State). Follows asked.file asked.form.out it a b before now result)
-        (one_start before asked.form.input past.start start past.begins.2 starts) (follows tells);
+    follows = λ start starts. record {
+      moments = past.ran.given;
+      own = λ tells. (past.ran.own tells).0;
+      holds = subst (λ (it : State). Follows asked.file asked.form.out it a b before now result past.ran.given)
+          (one_start before asked.form.input past.start start past.begins.2 starts) follows;
+    };
   }
 
 -- by the words alone
@@ -223,10 +229,10 @@ heads known asked form a b before now result is course = record {
   cause = course.cause;
   host_cause = course.host_cause;
   start = subst (λ (it : Option JobForm). StartCause before it result) is course.start;
-  follows = λ tells other start asks.
+  follows = λ other start asks.
       let same : form ≡ other = one_form asked form other is asks.0 in
-      subst (λ (it : JobForm). Follows it.file it.form.out start a b before now result) same
-      (course.follows tells start (subst (λ (it : JobForm). Starts before it.form.input start) (sym same) asks.1));
+      subst (λ (it : JobForm). OfMoments known a.moments (Follows it.file it.form.out start a b before now result)) same
+      (course.follows start (subst (λ (it : JobForm). Starts before it.form.input start) (sym same) asks.1));
 }
 
 -- and where these are others
@@ -242,7 +248,7 @@ heads_usage known asked a b before result none is stands =
       cause = tt;
       host_cause = refl;
       start = tt;
-      follows = λ tells form start asks. let wrong : None ≡ Some form = asks.0 in absurd (cc);
+      follows = λ form start asks. let wrong : None ≡ Some form = asks.0 in absurd (cc);
     }) stands)
 
 pub usage_tried : (before now : Contents) (f g : ℕ) (text : List ℕ) → text ≡ usage → Tried before now f g [] (text ++ end_of_line)

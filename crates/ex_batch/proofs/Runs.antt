@@ -19,7 +19,7 @@ use Rattle.ex_take.specs.ExecState.{ExecState, exec_start}
 use Rattle.ex_batch.specs.Batch.{Batch, batch_of}
 use Rattle.ex_batch.specs.ControlFile.{named_file}
 use Rattle.ex_batch.specs.RunEnd.{Ran, Scene, seen}
-use Rattle.ex_batch.specs.Takes.{step_outcome}
+use Rattle.ex_batch.specs.Takes.{Runs, step_outcome}
 use Rattle.ex_batch.specs.Whole.{batch_by, whole_of}
 use Rattle.ex_batch.specs.declared.step.Ended.{Ended}
 use Rattle.ex_batch.specs.declared.step.Ended.TheVariants.{Stopped}
@@ -58,60 +58,76 @@ module _ (known : Type 0) (word : List ℕ) (start state : State) (job : ExecSta
     ran_refused code is =
         let so : whole_of start word a.moments ≡ record { events = []; end = Stopped code } = named (Err code) a.moments is in
         record {
-          traces = λ _. subst (λ (it : Batch). Traces (seen a (exec_start start)) (seen a job) it.events (Ok tt)) (sym so)
-              (subst (λ (it : ExecState). Traces (seen a (exec_start start)) (seen a it) [] (Ok tt)) (sym begins)
-              (traces_none (seen a (exec_start start)) tt));
-          end = λ _. ap (λ (it : Batch). it.end) (sym so);
+          given = a.moments;
+          later = a.moments;
+          own = λ _. (refl, refl);
+          runs = record {
+            traces = subst (λ (it : Batch). Traces (seen a a.moments (exec_start start)) (seen a a.moments job) it.events (Ok tt)) (sym so)
+                (subst (λ (it : ExecState). Traces (seen a a.moments (exec_start start)) (seen a a.moments it) [] (Ok tt)) (sym begins)
+                (traces_none (seen a a.moments (exec_start start)) tt));
+            end = ap (λ (it : Batch). it.end) (sym so);
+          };
           cause = refl;
         }
 
     module _ (place : Place) (is : Ok place ≡ named_file (catalogue_of state) word) where
-      abbrev batch : Batch
-      batch = batch_of (lines (bytes_of place start)) a.moments (exec_start start)
+      abbrev batch : List ℕ → Batch
+      batch moments = batch_of (lines (bytes_of place start)) moments (exec_start start)
 
-      so : whole_of start word a.moments ≡ record { events = Memory ∷ batch.events; end = batch.end }
-      so = named (Ok place) a.moments is
+      so : (moments : List ℕ) → whole_of start word moments ≡ record { events = Memory ∷ (batch moments).events; end = (batch moments).end }
+      so moments = named (Ok place) moments is
 
       -- memory runs out for its lines
       pub ran_short : Ran known word start job (Err stop.Memory) a a
       unfolding Traces ObeyCause
       ran_short = record {
-        traces = λ _. subst (λ (it : Batch). Traces (seen a (exec_start start)) (seen a job) it.events (Err stop.Memory)) (sym so)
-            (record {
-              done = [];
-              cut = MemoryCut;
-              rest = batch.events;
-              cause = refl;
-              split = refl;
-              stands = subst (λ (it : ExecState). Performs (seen a (exec_start start)) (seen a it) []) (sym begins)
-                  (performs_none (seen a (exec_start start)));
-            });
-        end = λ _. tt;
+        given = a.moments;
+        later = a.moments;
+        own = λ _. (refl, refl);
+        runs = record {
+          traces = subst (λ (it : Batch). Traces (seen a a.moments (exec_start start)) (seen a a.moments job) it.events (Err stop.Memory))
+              (sym (so a.moments))
+              (record {
+                done = [];
+                cut = MemoryCut;
+                rest = (batch a.moments).events;
+                cause = refl;
+                split = refl;
+                stands = subst (λ (it : ExecState). Performs (seen a a.moments (exec_start start)) (seen a a.moments it) []) (sym begins)
+                    (performs_none (seen a a.moments (exec_start start)));
+              });
+          end = tt;
+        };
         cause = refl;
       }
 
-      -- the lines are run
+      -- the lines are run over these moments
       pub ran_lines : (held_lines : List (List ℕ)) (bytes : List ℕ) (left : ExecState) (b : Scene) (how : Result Ended Stop)
           → bytes ≡ bytes_of place state → held_lines ≡ lines bytes
-          → (known → Traces (seen a job) (seen b left) (batch_of held_lines a.moments job).events (step_outcome how))
-          → (known → IfOk how (λ end. end ≡ (batch_of held_lines a.moments job).end))
-          → ObeyCause a.faults b.faults (step_outcome how)
-          → Ran known word start left how a b
-      ran_lines held_lines bytes left b how of read traces end cause =
+          → (given later : List ℕ) → (known → (given ≡ a.moments) × (later ≡ b.moments))
+          → Runs (seen a given job) (seen b later left) (batch_of held_lines given job) how
+          → ObeyCause a.faults b.faults (step_outcome how) → Ran known word start left how a b
+      ran_lines held_lines bytes left b how of read given later own runs cause =
           let same : held_lines ≡ lines (bytes_of place start) =
           read ∙ ap lines of ∙ ap (λ (it : State). lines (bytes_of place it)) here in
-          let run : batch_of held_lines a.moments job ≡ batch =
-          ap (λ (it : List (List ℕ)). batch_of it a.moments job) same
-          ∙ ap (λ (it : ExecState). batch_of (lines (bytes_of place start)) a.moments it) begins in
+          let run : batch_of held_lines given job ≡ batch given =
+          ap (λ (it : List (List ℕ)). batch_of it given job) same
+          ∙ ap (λ (it : ExecState). batch_of (lines (bytes_of place start)) given it) begins in
           record {
-            traces = λ tells. subst (λ (it : Batch). Traces (seen a (exec_start start)) (seen b left) it.events (step_outcome how)) (sym so)
-                (traces_both (seen a (exec_start start)) (seen a (exec_start start)) (seen b left) (Memory ∷ []) batch.events (step_outcome how)
-                (subst (λ (it : Batch). Traces (seen a (exec_start start)) (seen b left) it.events (step_outcome how)) run
-                (subst (λ (it : ExecState). Traces (seen a it) (seen b left) (batch_of held_lines a.moments job).events (step_outcome how)) begins
-                (traces tells)))
-                (memory_given (seen a (exec_start start))));
-            end = λ tells. subst (λ (it : Batch). IfOk how (λ end. end ≡ it.end)) (sym so)
-                (subst (λ (it : Batch). IfOk how (λ end. end ≡ it.end)) run (end tells));
+            given = given;
+            later = later;
+            own = own;
+            runs = record {
+              traces = subst (λ (it : Batch). Traces (seen a given (exec_start start)) (seen b later left) it.events (step_outcome how)) (sym (so given))
+                  (traces_both (seen a given (exec_start start)) (seen a given (exec_start start)) (seen b later left) (Memory ∷ []) (batch given).events
+                  (step_outcome how)
+                  (subst (λ (it : Batch). Traces (seen a given (exec_start start)) (seen b later left) it.events (step_outcome how)) run
+                  (subst (λ (it : ExecState). Traces (seen a given it) (seen b later left) (batch_of held_lines given job).events (step_outcome how)) begins
+                  runs.traces))
+                  (memory_given (seen a given (exec_start start))));
+              end = subst (λ (it : Batch). IfOk how (λ end. end ≡ it.end)) (sym (so given))
+                  (subst (λ (it : Batch). IfOk how (λ end. end ≡ it.end)) run runs.end);
+            };
             cause = cause;
           }
 

@@ -5,6 +5,7 @@ use Rattle.cm_io.specs.declared.status.Status.TheVariants as status
 use Rattle.ex_store.specs.State.{State}
 use Rattle.ex_system.specs.Disk.{Disk}
 use Rattle.ex_system.specs.Saving.{HostCause}
+use Rattle.ex_batch.specs.Moments.{OfMoments}
 use Rattle.ex_batch.specs.RunEnd.{Asks, Follows, IsBatch, JobForm, Scene, ScreenCause, Stands, StartCause}
 
 pub record Heads (known : Type 0) (asked : Option JobForm) (a b : Scene) (before now : Disk) (result : Status)
@@ -15,5 +16,5 @@ pub record Heads (known : Type 0) (asked : Option JobForm) (a b : Scene) (before
   pub cause : ScreenCause a.faults b.faults result
   pub host_cause : HostCause before.faults now.faults result
   pub start : StartCause before asked result
-  pub follows : known → (form : JobForm) → (start : State) → Asks asked before form start
-      → Follows form.file form.form.out start a b before now result
+  pub follows : (form : JobForm) → (start : State) → Asks asked before form start
+      → OfMoments known a.moments (Follows form.file form.form.out start a b before now result)

@@ -5,6 +5,7 @@ pub mod Heads
 pub mod Job
 pub mod Labels
 pub mod LineCount
+pub mod Moments
 pub mod Request
 pub mod RunEnd
 pub mod Takes

@@ -1,5 +1,5 @@
 -- What is at the end of a run of a control file.
-use Rattle.std.specs.Prelude.{◌≡◌, ◌⊎◌, ◌≤◌, ◌+◌, ℕ, false, List, [], ◌∷◌, ◌++◌, codes, Option, Some, None, Result, Ok, Err, IfOk, IsTrue}
+use Rattle.std.specs.Prelude.{◌≡◌, ◌⊎◌, ◌≤◌, ◌+◌, ℕ, false, List, [], ◌∷◌, ◌++◌, codes, Option, Some, None, Result, Ok, Err, IsTrue}
 use Rattle.cm_text.specs.ScreenBytes.{end_of_line}
 use Rattle.cm_fields.specs.declared.code.Code.{Code}
 use Rattle.cm_io.specs.Fault.{Rose}
@@ -11,7 +11,6 @@ use Rattle.cm_io.specs.declared.status.Status.{Status}
 use Rattle.cm_io.specs.declared.status.Status.TheVariants as status
 use Rattle.cm_state.specs.Echo.{refusal}
 use Rattle.cm_run.specs.Cause.{ObeyCause}
-use Rattle.cm_run.specs.Cut.{Traces}
 use Rattle.cm_run.specs.Event.{screen_bytes, state_after, trials_of}
 use Rattle.cm_run.specs.Observation.{Observation, observation}
 use Rattle.cm_run.specs.declared.stop.Stop.{Stop}
@@ -26,7 +25,8 @@ use Rattle.ex_system.specs.Saving.{HostCause, IsOr, Saves}
 use Rattle.ex_system.specs.Start.{Began, InputCause, IsEarly, IsLoaded, Starts}
 use Rattle.ex_system.specs.Trying.{Tried}
 use Rattle.ex_take.specs.ExecState.{ExecState, exec_start}
-use Rattle.ex_batch.specs.Takes.{step_outcome}
+use Rattle.ex_batch.specs.Moments.{OfMoments}
+use Rattle.ex_batch.specs.Takes.{Runs, step_outcome}
 use Rattle.ex_batch.specs.Whole.{whole_of}
 use Rattle.ex_batch.specs.declared.step.Ended.{Ended}
 use Rattle.ex_batch.specs.declared.step.Ended.TheVariants as ended
@@ -64,9 +64,10 @@ abbrev pub scene : {S C : Type 0} → Sinks S → S → Clocks C → C → ℕ �
 scene s screen c clock trials =
     record { screen = s.contents screen; faults = s.faults screen; moments = c.left clock; trials = trials }
 
--- what is observed where the EXEC is in this state: there is no log, and there are no keys
-abbrev pub seen : Scene → ExecState → Observation ExecState
-seen at state = observation at.screen Nothing [] 0 at.moments at.trials state
+-- what is observed where these moments are to come and the EXEC is in this state: there is no log, and there are no
+-- keys
+abbrev pub seen : Scene → List ℕ → ExecState → Observation ExecState
+seen at moments state = observation at.screen Nothing [] 0 moments at.trials state
 
 -- the screen alone has changed
 abbrev pub with_screen : Scene → Contents → ℕ → Scene
@@ -120,12 +121,14 @@ pub record Shown (a b : Scene) (text : List ℕ) : Type 0 where
   pub screen : Tried a.screen b.screen a.faults b.faults [] text
   pub rest : b ≡ with_screen a b.screen b.faults
 
--- the file was run from this state on: what was observed is the whole run, or a cut of it
+-- the file was run from this state on: what was observed is the whole run over some moments, those of the clock where
+-- it tells, or a cut of it
 pub record Ran (known : Type 0) (file : List ℕ) (start : State) (left : ExecState) (how : Result Ended Stop)
     (a b : Scene) : Type 0 where
-  pub traces : known
-      → Traces (seen a (exec_start start)) (seen b left) (whole_of start file a.moments).events (step_outcome how)
-  pub end : known → IfOk how (λ end. end ≡ (whole_of start file a.moments).end)
+  pub given : List ℕ
+  pub later : List ℕ
+  pub own : known → (given ≡ a.moments) × (later ≡ b.moments)
+  pub runs : Runs (seen a given (exec_start start)) (seen b later left) (whole_of start file given) how
   pub cause : ObeyCause a.faults b.faults (step_outcome how)
 
 -- the run began in a state, and the image of the state that it left is written; then how it went is shown
@@ -185,22 +188,22 @@ abbrev pub end_text : Ended → List ℕ
 end_text ended.Finished = []
 end_text (ended.Stopped code) = refusal code
 
--- of a run that begins in this state, the clock telling. Where it is Done or Stopped it is that, by how the whole run
+-- of a run that begins in this state, over these moments. Where it is Done or Stopped it is that, by how the whole run
 -- ends; the screen was given all that the run shows, and then why it was stopped, or a prefix of that where the screen
 -- fails there; the counter has risen by what its trials cost, and OUT holds the image of the state that it leaves. In
 -- each case the counter has risen by no more. Where nothing outside failed it is that, or NoMemory
 pub record Follows (file out : List ℕ) (start : State) (a b : Scene) (before now : Disk) (result : Status)
-    : Type 0 where
-  pub ends : IsWhole result → result ≡ end_status (whole_of start file a.moments).end
+    (moments : List ℕ) : Type 0 where
+  pub ends : IsWhole result → result ≡ end_status (whole_of start file moments).end
   pub shown : IsWhole result → Tried a.screen b.screen a.faults b.faults
-      (screen_bytes (whole_of start file a.moments).events) (end_text (whole_of start file a.moments).end)
-  pub counted : IsWhole result → b.trials ≡ a.trials + trials_of (whole_of start file a.moments).events
+      (screen_bytes (whole_of start file moments).events) (end_text (whole_of start file moments).end)
+  pub counted : IsWhole result → b.trials ≡ a.trials + trials_of (whole_of start file moments).events
   pub saved : IsWhole result → IsTrue before.tells
       → now.files out
-      ≡ Some (image_text (state_after (exec_start start) (whole_of start file a.moments).events).interpreter.state)
-  pub most : b.trials ≤ a.trials + trials_of (whole_of start file a.moments).events
+      ≡ Some (image_text (state_after (exec_start start) (whole_of start file moments).events).interpreter.state)
+  pub most : b.trials ≤ a.trials + trials_of (whole_of start file moments).events
   pub complete : IsQuiet a.faults b.faults → IsQuiet before.faults now.faults
-      → (result ≡ end_status (whole_of start file a.moments).end) ⊎ (result ≡ status.NoMemory)
+      → (result ≡ end_status (whole_of start file moments).end) ⊎ (result ≡ status.NoMemory)
 
 -- all that is known of the run that a form asks for
 pub record Course (known : Type 0) (asked : JobForm) (a b : Scene) (before now : Disk) (result : Status) : Type 0 where
@@ -210,5 +213,5 @@ pub record Course (known : Type 0) (asked : JobForm) (a b : Scene) (before now :
   pub cause : ScreenCause a.faults b.faults result
   pub host_cause : HostCause before.faults now.faults result
   pub start : InputCause before asked.form.input result
-  pub follows : known → (start : State) → Starts before asked.form.input start
-      → Follows asked.file asked.form.out start a b before now result
+  pub follows : (start : State) → Starts before asked.form.input start
+      → OfMoments known a.moments (Follows asked.file asked.form.out start a b before now result)

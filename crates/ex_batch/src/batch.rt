@@ -1,12 +1,12 @@
 // The run over the lines of a control file.
-ghost use Rattle.std.specs.Prelude.{◌≡◌, ◌≤◌, ℕ, List, IsTrue, IfOk, slice_get};
+ghost use Rattle.std.specs.Prelude.{◌≡◌, ◌≤◌, ℕ, List, slice_get};
 ghost use Rattle.cm_io.specs.Contents.{Contents};
 ghost use Rattle.cm_run.specs.Cause.{ObeyCause};
-ghost use Rattle.cm_run.specs.Cut.{Traces};
 ghost use Rattle.cm_run.specs.Observation.{observation};
 ghost use Rattle.ex_batch.specs.Batch.{batch_of, limit_end};
 ghost use Rattle.ex_batch.specs.Job.{job_semantics};
-ghost use Rattle.ex_batch.specs.Takes.{step_outcome};
+ghost use Rattle.ex_batch.specs.Moments.{OverMoments};
+ghost use Rattle.ex_batch.specs.Takes.{Runs, step_outcome};
 
 use crate::file::ControlFile;
 use crate::job::Job;
@@ -42,14 +42,13 @@ pub fn run_batch<S: Sink, C: Clock, L: Ledger>(
     steps: &mut Steps<L>,
 ) -> Result<Ended, Stop>
     requires grammar { grammar.now ≡ job_semantics.graph }
-    // [batch-line] What stands is the trace of the run, or a cut of it.
-    ensures traces { IsTrue C.tells → (log : Contents) → (keys : List ℕ) → (gets : ℕ) → Traces
-        (observation (S.contents screen.old) log keys gets (C.left clock.old) steps.old job.old)
-        (observation (S.contents screen.new) log keys gets (C.left clock.new) steps.new job.new)
-        (batch_of file.now (C.left clock.old) job.old).events (step_outcome result) }
-    // Where it was not cut, it ends as the run does.
-    ensures end { IsTrue C.tells
-        → IfOk result (λ end. end ≡ (batch_of file.now (C.left clock.old) job.old).end) }
+    // [batch-line] What stands is the trace of the run, or a cut of it; and where it was not cut, it ends as the run
+    // does. That holds over the moments of a clock that tells, and of each other clock over some moments.
+    ensures runs { OverMoments C.tells (C.left clock.old) (C.left clock.new) (λ given later.
+        (log : Contents) → (keys : List ℕ) → (gets : ℕ) → Runs
+        (observation (S.contents screen.old) log keys gets given steps.old job.old)
+        (observation (S.contents screen.new) log keys gets later steps.new job.new)
+        (batch_of file.now given job.old) result) }
     ensures later { S.faults screen.old ≤ S.faults screen.new }
     ensures cause { ObeyCause (S.faults screen.old) (S.faults screen.new) (step_outcome result) }
 {

@@ -3,6 +3,7 @@ ghost use Rattle.std.specs.Prelude.{◌≡◌, ◌≤◌, ◌∷◌, ℕ, Bool, 
 ghost use Rattle.std.specs.List.{list_any};
 ghost use Rattle.cm_text.specs.Text.{ends_in_hyphen, finished};
 ghost use Rattle.cm_fields.specs.declared.code.Code.{Code};
+ghost use Rattle.cm_fields.specs.declared.code.Code.TheVariants.{BadLine};
 ghost use Rattle.cm_blocks.specs.KeptParse.{cost};
 ghost use Rattle.cm_blocks.specs.declared.field.Ending.TheVariants as endings;
 ghost use Rattle.cm_blocks.specs.declared.field.Fault.{Fault};
@@ -16,7 +17,7 @@ ghost use Rattle.ex_commands.specs.Act.{act_of};
 ghost use Rattle.ex_commands.specs.declared.acted.Acted.TheVariants as answers;
 ghost use Rattle.ex_commands.specs.declared.command.Command.{Command};
 ghost use Rattle.ex_store.specs.State.{State};
-ghost use Rattle.ex_take.specs.Exec.{acts, exec_semantics};
+ghost use Rattle.ex_take.specs.Exec.{acts, exec_semantics, stopped};
 ghost use Rattle.ex_take.specs.ExecState.{ExecState, exec_start};
 ghost use Rattle.ex_take.specs.Interpreter.{command_at};
 ghost use Rattle.ex_take.specs.Taking.{RestsUnlessEnded, is_at_rest};
@@ -101,20 +102,21 @@ pub fn nothing_is_left_between_two_lines()
         → RestsUnlessEnded (state_after at (batch_from lines most moments at (Line 0)).events) }
 {}
 
-/// A refused line of the EXEC's changes no directory and no file: one that cannot be parsed, one whose parse ends in a
-/// fault, one whose command may not be in a control file, and one whose command is refused itself. Of a TAKE that is
-/// refused later, the lines before have acted.
+/// A refused line of the EXEC's changes no directory and no file: it leaves what was there before it, but that it is
+/// counted, and why is remembered. So does one that cannot be parsed, one whose parse ends in a fault, one whose
+/// command may not be in a control file, and one whose command is refused itself. Of a TAKE that is refused later, the
+/// lines before have acted.
 pub fn a_refused_line_changes_nothing()
+    ensures files { (at : ExecState) → (code : Code) → (stopped code at).interpreter.state ≡ at.interpreter.state }
     ensures text { (at : ExecState) → (text : List ℕ) → (moment : ℕ) → is_parsable text ≡ false
-        → (state_after at (text_trace moment at text)).interpreter.state ≡ at.interpreter.state }
+        → state_after at (text_trace moment at text) ≡ stopped BadLine at }
     ensures parse { (at : ExecState) → (session : SessionState) → (moment : ℕ) → (fault : Fault)
-        → (left_by at (order_effects at session moment (endings.Fault fault))).interpreter.state
-        ≡ at.interpreter.state }
+        → left_by at (order_effects at session moment (endings.Fault fault)) ≡ stopped fault.code at }
     ensures barred { (at : ExecState) → (moment : ℕ) → (command : Command) → (code : Code) → bar_of command ≡ Some code
-        → (left_by at (job_effects at moment command)).interpreter.state ≡ at.interpreter.state }
+        → left_by at (job_effects at moment command) ≡ stopped code at }
     ensures act { (at : ExecState) → (moment : ℕ) → (command : Command) → (code : Code)
         → (act_of command moment at.interpreter.state).answer ≡ answers.Refused code
-        → (left_by at (acts at moment command)).interpreter.state ≡ at.interpreter.state }
+        → left_by at (acts at moment command) ≡ stopped code at }
 {
     refused_acts::a_refused_line_changes_nothing();
 }

@@ -13,6 +13,7 @@ ghost use Rattle.ex_system.specs.Trying.{Tried};
 ghost use Rattle.ex_batch.specs.Request.{job_view};
 ghost use Rattle.ex_batch.specs.Heads.{Heads};
 ghost use Rattle.ex_batch.specs.Job.{job_semantics};
+ghost use Rattle.ex_batch.specs.Moments.{OfMoments};
 ghost use Rattle.ex_batch.specs.RunEnd.{Asks, Course, IsBatch, IsWhole, JobForm as Asked, Ran, ScreenCause, Stands, StartCause, end_status, end_text, form_of, scene, usage, with_file};
 ghost use Rattle.ex_batch.specs.Whole.{whole_of};
 
@@ -168,27 +169,43 @@ pub fn batch20<H: Host, S: Sink, C: Clock, L: Ledger>(
     clock: &mut C,
     steps: &mut Steps<L>,
 ) -> Status
+    // When each status may come, by what failed outside ..
+    ensures host_cause { HostCause (H.faults host.old) (H.faults host.new) result }
+    ensures cause { ScreenCause (S.faults screen.old) (S.faults screen.new) result }
+    ensures batch { IsBatch result }
+    // .. by the words ..
+    ensures usage { (result ≡ Status.Usage) ↔ (form_of words.now ≡ None) }
+    // .. and by the file IN: NoImage exactly where there is none, ImageTooLarge exactly where it has more bytes than
+    // any image, BadImage exactly where its bytes are no image, with the place and the kind of the first wrong record.
+    ensures start { StartCause (disk_of H.Host host.old) (form_of words.now) result }
+
+    // The clauses from here to `saved`, and `most` and `complete`, speak of moments: those of the clock where it tells,
+    // and else some.
+    //
     // Done and Stopped come where the whole run ends so, from the state that it begins in, that whose image the file
     // IN has: a run is stopped where FILE is refused, or at a line ..
-    ensures whole { IsTrue C.tells → IsWhole result → (asked : Asked) → (start : State)
+    ensures whole { IsWhole result → (asked : Asked) → (start : State)
         → Asks (form_of words.now) (disk_of H.Host host.old) asked start
-        → result ≡ end_status (whole_of start asked.file (C.left clock.old)).end }
+        → OfMoments (IsTrue C.tells) (C.left clock.old) (λ moments.
+        result ≡ end_status (whole_of start asked.file moments).end) }
     // .. the screen was given all that the run shows, and after it why it was stopped, or a prefix of that where the
     // screen fails there ..
-    ensures shown { IsTrue C.tells → IsWhole result → (asked : Asked) → (start : State)
+    ensures shown { IsWhole result → (asked : Asked) → (start : State)
         → Asks (form_of words.now) (disk_of H.Host host.old) asked start
-        → Tried (S.contents screen.old) (S.contents screen.new) (S.faults screen.old) (S.faults screen.new)
-        (screen_bytes (whole_of start asked.file (C.left clock.old)).events)
-        (end_text (whole_of start asked.file (C.left clock.old)).end) }
+        → OfMoments (IsTrue C.tells) (C.left clock.old) (λ moments.
+        Tried (S.contents screen.old) (S.contents screen.new) (S.faults screen.old) (S.faults screen.new)
+        (screen_bytes (whole_of start asked.file moments).events) (end_text (whole_of start asked.file moments).end)) }
     // .. the counter has risen by what the trials of all lines cost ..
-    ensures counted { IsTrue C.tells → IsWhole result → (asked : Asked) → (start : State)
+    ensures counted { IsWhole result → (asked : Asked) → (start : State)
         → Asks (form_of words.now) (disk_of H.Host host.old) asked start
-        → steps.new ≡ steps.old + trials_of (whole_of start asked.file (C.left clock.old)).events }
+        → OfMoments (IsTrue C.tells) (C.left clock.old) (λ moments.
+        steps.new ≡ steps.old + trials_of (whole_of start asked.file moments).events) }
     // .. and OUT holds the image of the state that the lines leave.
-    ensures saved { IsTrue C.tells → IsTrue H.tells → IsWhole result → (asked : Asked) → (start : State)
+    ensures saved { IsTrue H.tells → IsWhole result → (asked : Asked) → (start : State)
         → Asks (form_of words.now) (disk_of H.Host host.old) asked start
-        → H.files host.new asked.form.out ≡ Some (image_text (state_after (exec_start start)
-        (whole_of start asked.file (C.left clock.old)).events).interpreter.state) }
+        → OfMoments (IsTrue C.tells) (C.left clock.old) (λ moments.
+        H.files host.new asked.form.out ≡ Some (image_text (state_after (exec_start start)
+        (whole_of start asked.file moments).events).interpreter.state)) }
 
     // What stands, whatever the status. Before FILE is looked at the message alone is shown, IN is loaded once, and OUT
     // is not created. Past that the trace of the whole run stands, or a cut of it: what was shown, counted and left is
@@ -199,25 +216,18 @@ pub fn batch20<H: Host, S: Sink, C: Clock, L: Ledger>(
         (scene S.Sink screen.old C.Clock clock.old steps.old) (scene S.Sink screen.new C.Clock clock.new steps.new)
         (disk_of H.Host host.old) (disk_of H.Host host.new) result }
     // The counter has risen by no more than the whole run costs.
-    ensures most { IsTrue C.tells → (asked : Asked) → (start : State)
+    ensures most { (asked : Asked) → (start : State)
         → Asks (form_of words.now) (disk_of H.Host host.old) asked start
-        → steps.new ≤ steps.old + trials_of (whole_of start asked.file (C.left clock.old)).events }
-
-    // When each status may come.
-    ensures batch { IsBatch result }
-    ensures usage { (result ≡ Status.Usage) ↔ (form_of words.now ≡ None) }
-    ensures cause { ScreenCause (S.faults screen.old) (S.faults screen.new) result }
-    ensures host_cause { HostCause (H.faults host.old) (H.faults host.new) result }
-    // And by the file IN: NoImage exactly where there is none, ImageTooLarge exactly where it has more bytes than any
-    // image, BadImage exactly where its bytes are no image, with the place and the kind of the first wrong record.
-    ensures start { StartCause (disk_of H.Host host.old) (form_of words.now) result }
+        → OfMoments (IsTrue C.tells) (C.left clock.old) (λ moments.
+        steps.new ≤ steps.old + trials_of (whole_of start asked.file moments).events) }
 
     // With words of a form, an image in IN, and nothing outside that fails, the status is Stopped where FILE is refused
     // or the run is stopped at a line, and else Done; or memory runs out.
-    ensures complete { IsTrue C.tells → (asked : Asked) → (start : State)
+    ensures complete { (asked : Asked) → (start : State)
         → Asks (form_of words.now) (disk_of H.Host host.old) asked start
         → IsQuiet (S.faults screen.old) (S.faults screen.new) → IsQuiet (H.faults host.old) (H.faults host.new)
-        → (result ≡ end_status (whole_of start asked.file (C.left clock.old)).end) ⊎ (result ≡ Status.NoMemory) }
+        → OfMoments (IsTrue C.tells) (C.left clock.old) (λ moments.
+        (result ≡ end_status (whole_of start asked.file moments).end) ⊎ (result ≡ Status.NoMemory)) }
 {
     run_words(alloc, words, host, screen, clock, steps)
 }

@@ -1,5 +1,5 @@
 // The outcome of one line of a control file.
-ghost use Rattle.std.specs.Prelude.{◌≡◌, ◌≤◌, ◌<◌, ◌+◌, ◌^◌, ℕ, List, IsTrue, Some, slice_get};
+ghost use Rattle.std.specs.Prelude.{◌≡◌, ◌≤◌, ◌<◌, ◌+◌, ◌^◌, ℕ, List, Some, slice_get};
 ghost use Rattle.cm_io.specs.Clock.{next_moment};
 ghost use Rattle.cm_io.specs.Contents.{Contents};
 ghost use Rattle.cm_run.specs.Cause.{ObeyCause};
@@ -9,6 +9,7 @@ ghost use Rattle.cm_run.specs.Observation.{observation};
 ghost use Rattle.ex_batch.specs.Control.{AreNamed, IsNamed, control_view, order_view};
 ghost use Rattle.ex_batch.specs.Batch.{after_event, after_text, condition_step, control_step, is_met, label_next, line_step, nothing_but, order_step, text_step, text_trace, unless_refused};
 ghost use Rattle.ex_batch.specs.Job.{job_semantics};
+ghost use Rattle.ex_batch.specs.Moments.{OverMoments};
 ghost use Rattle.ex_batch.specs.Takes.{Takes, step_outcome};
 
 use crate::control::{Control, Order, control_of, parsable};
@@ -87,10 +88,11 @@ fn do_text<S: Sink, C: Clock, L: Ledger>(
 ) -> Result<Next, Stop>
     requires grammar { grammar.now ≡ job_semantics.graph }
     requires within { place + 1 < 2 ^ 64 }
-    ensures takes { IsTrue C.tells → (log : Contents) → (keys : List ℕ) → (gets : ℕ) → Takes
-        (observation (S.contents screen.old) log keys gets (C.left clock.old) steps.old job.old)
-        (observation (S.contents screen.new) log keys gets (C.left clock.new) steps.new job.new)
-        (after_event Moment (text_step place (next_moment (C.left clock.old)) job.old text.now)) result }
+    ensures takes { OverMoments C.tells (C.left clock.old) (C.left clock.new) (λ given later.
+        (log : Contents) → (keys : List ℕ) → (gets : ℕ) → Takes
+        (observation (S.contents screen.old) log keys gets given steps.old job.old)
+        (observation (S.contents screen.new) log keys gets later steps.new job.new)
+        (after_event Moment (text_step place (next_moment given) job.old text.now)) result) }
     ensures later { S.faults screen.old ≤ S.faults screen.new }
     ensures cause { ObeyCause (S.faults screen.old) (S.faults screen.new) (step_outcome result) }
 {
@@ -126,10 +128,11 @@ fn do_order<S: Sink, C: Clock, L: Ledger>(
     requires grammar { grammar.now ≡ job_semantics.graph }
     requires within { place + 1 < 2 ^ 64 }
     requires named { IsNamed (order_view order) }
-    ensures takes { IsTrue C.tells → (log : Contents) → (keys : List ℕ) → (gets : ℕ) → Takes
-        (observation (S.contents screen.old) log keys gets (C.left clock.old) steps.old job.old)
-        (observation (S.contents screen.new) log keys gets (C.left clock.new) steps.new job.new)
-        (order_step file.now place (C.left clock.old) job.old (order_view order.entry)) result }
+    ensures takes { OverMoments C.tells (C.left clock.old) (C.left clock.new) (λ given later.
+        (log : Contents) → (keys : List ℕ) → (gets : ℕ) → Takes
+        (observation (S.contents screen.old) log keys gets given steps.old job.old)
+        (observation (S.contents screen.new) log keys gets later steps.new job.new)
+        (order_step file.now place given job.old (order_view order.entry)) result) }
     ensures later { S.faults screen.old ≤ S.faults screen.new }
     ensures cause { ObeyCause (S.faults screen.old) (S.faults screen.new) (step_outcome result) }
 {
@@ -163,10 +166,11 @@ fn do_condition<S: Sink, C: Clock, L: Ledger>(
     requires grammar { grammar.now ≡ job_semantics.graph }
     requires within { place + 1 < 2 ^ 64 }
     requires named { IsNamed (order_view order) }
-    ensures takes { IsTrue C.tells → (log : Contents) → (keys : List ℕ) → (gets : ℕ) → Takes
-        (observation (S.contents screen.old) log keys gets (C.left clock.old) steps.old job.old)
-        (observation (S.contents screen.new) log keys gets (C.left clock.new) steps.new job.new)
-        (condition_step file.now place (C.left clock.old) job.old met (order_view order.entry)) result }
+    ensures takes { OverMoments C.tells (C.left clock.old) (C.left clock.new) (λ given later.
+        (log : Contents) → (keys : List ℕ) → (gets : ℕ) → Takes
+        (observation (S.contents screen.old) log keys gets given steps.old job.old)
+        (observation (S.contents screen.new) log keys gets later steps.new job.new)
+        (condition_step file.now place given job.old met (order_view order.entry)) result) }
     ensures later { S.faults screen.old ≤ S.faults screen.new }
     ensures cause { ObeyCause (S.faults screen.old) (S.faults screen.new) (step_outcome result) }
 {
@@ -193,11 +197,12 @@ fn do_unless_refused<S: Sink, C: Clock, L: Ledger>(
     requires grammar { grammar.now ≡ job_semantics.graph }
     requires within { place + 1 < 2 ^ 64 }
     requires named { IsNamed (order_view order) }
-    ensures takes { IsTrue C.tells → (log : Contents) → (keys : List ℕ) → (gets : ℕ) → Takes
-        (observation (S.contents screen.old) log keys gets (C.left clock.old) steps.old job.old)
-        (observation (S.contents screen.new) log keys gets (C.left clock.new) steps.new job.new)
-        (unless_refused job.old.stop (order_step file.now place (C.left clock.old) job.old (order_view order.entry)))
-        result }
+    ensures takes { OverMoments C.tells (C.left clock.old) (C.left clock.new) (λ given later.
+        (log : Contents) → (keys : List ℕ) → (gets : ℕ) → Takes
+        (observation (S.contents screen.old) log keys gets given steps.old job.old)
+        (observation (S.contents screen.new) log keys gets later steps.new job.new)
+        (unless_refused job.old.stop (order_step file.now place given job.old (order_view order.entry)))
+        result) }
     ensures later { S.faults screen.old ≤ S.faults screen.new }
     ensures cause { ObeyCause (S.faults screen.old) (S.faults screen.new) (step_outcome result) }
 {
@@ -233,10 +238,11 @@ fn do_control<S: Sink, C: Clock, L: Ledger>(
     requires grammar { grammar.now ≡ job_semantics.graph }
     requires within { place + 1 < 2 ^ 64 }
     requires named { AreNamed (control_view control) }
-    ensures takes { IsTrue C.tells → (log : Contents) → (keys : List ℕ) → (gets : ℕ) → Takes
-        (observation (S.contents screen.old) log keys gets (C.left clock.old) steps.old job.old)
-        (observation (S.contents screen.new) log keys gets (C.left clock.new) steps.new job.new)
-        (control_step file.now place (C.left clock.old) job.old (control_view control.entry)) result }
+    ensures takes { OverMoments C.tells (C.left clock.old) (C.left clock.new) (λ given later.
+        (log : Contents) → (keys : List ℕ) → (gets : ℕ) → Takes
+        (observation (S.contents screen.old) log keys gets given steps.old job.old)
+        (observation (S.contents screen.new) log keys gets later steps.new job.new)
+        (control_step file.now place given job.old (control_view control.entry)) result) }
     ensures later { S.faults screen.old ≤ S.faults screen.new }
     ensures cause { ObeyCause (S.faults screen.old) (S.faults screen.new) (step_outcome result) }
 {
@@ -272,10 +278,11 @@ pub(crate) fn take_control<S: Sink, C: Clock, L: Ledger>(
     steps: &mut Steps<L>,
 ) -> Result<Next, Stop>
     requires grammar { grammar.now ≡ job_semantics.graph }
-    ensures takes { IsTrue C.tells → (log : Contents) → (keys : List ℕ) → (gets : ℕ) → Takes
-        (observation (S.contents screen.old) log keys gets (C.left clock.old) steps.old job.old)
-        (observation (S.contents screen.new) log keys gets (C.left clock.new) steps.new job.new)
-        (line_step file.now place (C.left clock.old) job.old (slice_get file.now place)) result }
+    ensures takes { OverMoments C.tells (C.left clock.old) (C.left clock.new) (λ given later.
+        (log : Contents) → (keys : List ℕ) → (gets : ℕ) → Takes
+        (observation (S.contents screen.old) log keys gets given steps.old job.old)
+        (observation (S.contents screen.new) log keys gets later steps.new job.new)
+        (line_step file.now place given job.old (slice_get file.now place)) result) }
     ensures later { S.faults screen.old ≤ S.faults screen.new }
     ensures cause { ObeyCause (S.faults screen.old) (S.faults screen.new) (step_outcome result) }
 {

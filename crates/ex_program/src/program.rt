@@ -1,5 +1,5 @@
 // The program over what is outside of it.
-ghost use Rattle.std.specs.Prelude.{◌≡◌, ◌⊎◌, ◌≤◌, ◌<◌, ◌↔◌, ◌+◌, ℕ, false, List, ◌++◌, length, None, Some, IsTrue};
+ghost use Rattle.std.specs.Prelude.{◌≡◌, ◌≢◌, ◌⊎◌, ◌≤◌, ◌<◌, ◌↔◌, ◌+◌, ℕ, false, List, ◌++◌, length, None, Some, IsTrue};
 ghost use Rattle.cm_io.specs.Contents.{add};
 ghost use Rattle.cm_run.specs.Cause.{counts};
 ghost use Rattle.cm_run.specs.Event.{log_bytes, trials_of};
@@ -16,7 +16,7 @@ ghost use Rattle.ex_system.specs.Form.{Form};
 ghost use Rattle.ex_system.specs.Quiet.{IsQuiet};
 ghost use Rattle.ex_system.specs.Saving.{HostCause};
 ghost use Rattle.ex_run.specs.Cause.{StatusCause};
-ghost use Rattle.ex_run.specs.Course.{Asks, Course, StartCause, logs};
+ghost use Rattle.ex_run.specs.Course.{Asks, Course, IsHalt, StartCause, logs};
 ghost use Rattle.ex_run.specs.Scene.{scene, telling};
 ghost use Rattle.ex_run.specs.declared.program.TheConstants.{KEY_LIMIT};
 ghost use Rattle.ex_program.specs.declared.progress.TheConstants.{GENERATED_LINES};
@@ -24,7 +24,7 @@ ghost use Rattle.ex_program.specs.ExecRun.{exec_left, exec_over, exec_trace, run
 ghost use Rattle.ex_program.specs.Form.{form_of, lines_of};
 ghost use Rattle.ex_program.specs.Generates.{Rises, Shows, Sums};
 ghost use Rattle.ex_program.specs.RunEnd.{Stands};
-ghost use Rattle.ex_program.specs.Summary.{summary_text};
+ghost use Rattle.ex_program.specs.Summary.{generated_trace, summary_text};
 
 use crate::generated_run::summarize;
 use crate::summary::Summary;
@@ -139,6 +139,17 @@ pub fn exec20<H: Host, K: Source, S: Sink, W: Sink, C: Clock, L: Ledger>(
     clock: &mut C,
     steps: &mut Steps<L>,
 ) -> Status
+    // When each status may come, by what failed outside ..
+    ensures host_cause { HostCause (H.faults host.old) (H.faults host.new) result }
+    ensures cause { StatusCause (counts (S.faults screen.old) (W.faults log.old) (K.faults keys.old))
+        (counts (S.faults screen.new) (W.faults log.new) (K.faults keys.new)) result }
+    // [usage] .. by the words ..
+    ensures usage { (result ≡ Status.Usage) ↔ ((form_of words.now ≡ None) × (lines_of words.now ≡ None)) }
+    // .. and by the file that the run is to begin from: NoImage exactly where there is none, ImageTooLarge exactly
+    // where it has more bytes than any image, BadImage exactly where its bytes are no image, with the place and the
+    // kind of the first wrong record.
+    ensures start { StartCause (disk_of H.Host host.old) (form_of words.now) result }
+
     // Where the run is Done, the screen was given what the run over all keys shows, from the state that it begins in,
     // the first one or that whose image the file IN has ..
     ensures done_shown { IsTrue K.tells → IsTrue C.tells → result ≡ Status.Done
@@ -159,6 +170,26 @@ pub fn exec20<H: Host, K: Source, S: Sink, W: Sink, C: Clock, L: Ledger>(
         → (form : Form) → (start : State) → Asks (form_of words.now) (disk_of H.Host host.old) form start
         → H.files host.new form.out
         ≡ Some (image_text (exec_left form.logs start (C.left clock.old) (K.left keys.old)).interpreter.state) }
+    // Whatever the status, the counter has risen by no more than the trials of all keys cost ..
+    ensures most { IsTrue K.tells → IsTrue C.tells → (form : Form) → (start : State)
+        → Asks (form_of words.now) (disk_of H.Host host.old) form start
+        → steps.new ≤ steps.old + trials_of (exec_trace form.logs start (C.left clock.old) (K.left keys.old)) }
+    // .. and at ReadFault and KeyLimit by exactly what those of the keys that were taken cost ..
+    ensures counted { IsTrue K.tells → IsTrue C.tells → IsHalt result → (form : Form) → (start : State)
+        → Asks (form_of words.now) (disk_of H.Host host.old) form start
+        → (taken : List ℕ) → taken ++ K.left keys.new ≡ K.left keys.old
+        → steps.new ≡ steps.old + trials_of (exec_trace form.logs start (C.left clock.old) taken) }
+    // .. which come only where LOGOUT has not acted.
+    ensures halted { IsTrue K.tells → IsTrue C.tells → IsHalt result → (form : Form) → (start : State)
+        → Asks (form_of words.now) (disk_of H.Host host.old) form start
+        → (taken : List ℕ) → taken ++ K.left keys.new ≡ K.left keys.old
+        → (exec_left form.logs start (C.left clock.old) taken).interpreter.ended ≡ false }
+    // With `-g N` the counter has risen by what the trials of all keys of so many lines cost, but where memory runs out
+    // by no more.
+    ensures generated_counted { (lines : ℕ) → form_of words.now ≡ None → lines_of words.now ≡ Some lines
+        → result ≢ Status.NoMemory → steps.new ≡ steps.old + trials_of (generated_trace lines) }
+    ensures generated_most { (lines : ℕ) → form_of words.now ≡ None → lines_of words.now ≡ Some lines
+        → steps.new ≤ steps.old + trials_of (generated_trace lines) }
 
     // After each beginning of the keys taken the screen shows the prompt and the line as they then are, where the next
     // key is for a line: all that the run over them shows leaves both on any screen whose last row was blank.
@@ -181,27 +212,16 @@ pub fn exec20<H: Host, K: Source, S: Sink, W: Sink, C: Clock, L: Ledger>(
     ensures unlogged { logs (form_of words.now) ≡ false
         → (W.contents log.new ≡ W.contents log.old) × (W.faults log.new ≡ W.faults log.old) }
 
-    // [usage] When each status may come.
-    ensures usage { (result ≡ Status.Usage) ↔ ((form_of words.now ≡ None) × (lines_of words.now ≡ None)) }
-    ensures cause { StatusCause (counts (S.faults screen.old) (W.faults log.old) (K.faults keys.old))
-        (counts (S.faults screen.new) (W.faults log.new) (K.faults keys.new)) result }
-    ensures host_cause { HostCause (H.faults host.old) (H.faults host.new) result }
-
-    // And by the file that the run is to begin from: NoImage exactly where there is none, ImageTooLarge exactly where
-    // it has more bytes than any image, BadImage exactly where its bytes are no image, with the place and the kind of
-    // the first wrong record.
-    ensures start { StartCause (disk_of H.Host host.old) (form_of words.now) result }
-
     // With words of a form, an image where they name one, fewer keys than a run takes, and nothing outside that fails,
-    // the run is Done.
+    // the run is Done, or memory runs out.
     ensures complete { IsTrue K.tells → (form : Form) → (start : State)
         → Asks (form_of words.now) (disk_of H.Host host.old) form start
         → length (K.left keys.old) < KEY_LIMIT
         → IsQuiet (S.faults screen.old) (S.faults screen.new) → IsQuiet (W.faults log.old) (W.faults log.new)
         → IsQuiet (K.faults keys.old) (K.faults keys.new) → IsQuiet (H.faults host.old) (H.faults host.new)
         → (result ≡ Status.Done) ⊎ (result ≡ Status.NoMemory) }
-    // With as many keys as a run takes, in which LOGOUT does not act, it is KeyLimit. LOGOUT is not to act at the
-    // moments that the clock tells, or where it tells none, whatever they are.
+    // With as many keys as a run takes, in which LOGOUT does not act, it is KeyLimit, or memory runs out. LOGOUT is not
+    // to act at the moments that the clock tells, or where it tells none, whatever they are.
     ensures limit { IsTrue K.tells → (form : Form) → (start : State)
         → Asks (form_of words.now) (disk_of H.Host host.old) form start
         → (taken rest : List ℕ) → taken ++ rest ≡ K.left keys.old → length taken ≡ KEY_LIMIT

@@ -7,4 +7,3 @@ mod PartLaws
 mod Prints
 mod Queues
 mod RowLaws
-mod WordCases

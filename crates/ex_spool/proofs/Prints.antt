@@ -77,8 +77,8 @@ module _ (known : Type 0) (form : Form) (a b : Scene) (why result : Status) (sam
     (host : HostCause a.disk.faults b.disk.faults why)
     (tried : Tried a.screen b.screen a.faults b.faults [] (message why)) (loads : IsLoaded form.input a.disk b.disk)
     (moments : b.moments ≡ a.moments) where
-  early_follows : (start : State) → Starts a.disk form.input start → Follows form start a b why
-  early_follows start starts = record {
+  early_follows : (start : State) → Starts a.disk form.input start → (moment : ℕ) → Follows form start a b why moment
+  early_follows start starts moment = record {
     shown = λ done. never form.input why status.Done early (no_done form.input) done;
     saved = λ done _. never form.input why status.Done early (no_done form.input) done;
     cut = λ failed. never form.input why status.WriteFault early (no_write_fault form.input) failed;
@@ -98,7 +98,8 @@ module _ (known : Type 0) (form : Form) (a b : Scene) (why result : Status) (sam
     cause = early_cause form.input a.faults b.faults why early;
     host_cause = host;
     start = cause;
-    follows = λ tells start starts. early_follows start starts;
+    follows = λ start starts.
+        record { moment = next_moment a.moments; taken = λ _. refl; holds = early_follows start starts (next_moment a.moments) };
   }
 
   pub course_early : Course known form a b result
@@ -197,19 +198,15 @@ module _ (known : Type 0) (form : Form) (a b : Scene) (result : Status) (start :
   run : IsRun result
   run = past_run start moment form.out a b loaded result printed
 
-  follows : known → Follows form start a b result
-  follows tells =
-      let is : moment ≡ next_moment a.moments = (taken tells).0 in
-      let now : Printed start (next_moment a.moments) form.out a.screen b.screen a.faults b.faults loaded b.disk result =
-      subst (λ (it : ℕ). Printed start it form.out a.screen b.screen a.faults b.faults loaded b.disk result) is printed in
-      record {
-        shown = past_shown start (next_moment a.moments) form.out a b loaded result now;
-        saved = λ done known. past_saved start (next_moment a.moments) form.out a b loaded result now done
-            (subst (λ (it : Bool). IsTrue it) (sym tells_same) known);
-        cut = past_cut start (next_moment a.moments) form.out a b loaded result loads.files now;
-        unshown = λ wanting. absurd (past_memory start moment form.out a b loaded result printed wanting);
-        complete = λ screen host. inl (past_quiet start (next_moment a.moments) form.out a b loaded result stays now screen host);
-      }
+  follows : Follows form start a b result moment
+  follows = record {
+    shown = past_shown start moment form.out a b loaded result printed;
+    saved = λ done known. past_saved start moment form.out a b loaded result printed done
+        (subst (λ (it : Bool). IsTrue it) (sym tells_same) known);
+    cut = past_cut start moment form.out a b loaded result loads.files printed;
+    unshown = λ wanting. absurd (past_memory start moment form.out a b loaded result printed wanting);
+    complete = λ screen host. inl (past_quiet start moment form.out a b loaded result stays printed screen host);
+  }
 
   pub course_past : Course known form a b result
   course_past = record {
@@ -226,8 +223,11 @@ module _ (known : Type 0) (form : Form) (a b : Scene) (result : Status) (start :
     cause = past_cause start moment form.out a b loaded result printed;
     host_cause = past_host start moment form.out a b loaded result stays printed;
     start = began_cause a.disk form.input start result began run;
-    follows = λ tells other starts.
-        subst (λ (it : State). Follows form it a b result) (one_start a.disk form.input start other began starts) (follows tells);
+    follows = λ other starts. record {
+      moment = moment;
+      taken = λ tells. (taken tells).0;
+      holds = subst (λ (it : State). Follows form it a b result moment) (one_start a.disk form.input start other began starts) follows;
+    };
   }
 
 -- the run whose screen failed within the pages

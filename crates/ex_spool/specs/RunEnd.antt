@@ -120,16 +120,21 @@ IsPrinting result = Unit {0}
 abbrev pub AreKept : Disk → Disk → Type 0
 AreKept before now = IsTrue before.tells → (name : List ℕ) → now.files name ≡ before.files name
 
--- of a run that begins in this state, the clock telling. Where it is Done the screen was given all pages of the entries
--- that are due at the moment, and OUT holds the image without these entries. Where it is WriteFault the screen was
--- given a prefix of the pages, and where it is NoMemory no page, and every file is as before. Where nothing outside
--- failed it is Done, or NoMemory
-pub record Follows (form : Form) (start : State) (a b : Scene) (result : Status) : Type 0 where
-  pub shown : result ≡ status.Done → b.screen ≡ add a.screen (pages (next_moment a.moments) start)
+-- there is a moment, that of the clock where it tells, at which this holds
+pub record AtMoment (known : Type 0) (moments : List ℕ) (Holds : ℕ → Type 0) : Type 0 where
+  pub moment : ℕ
+  pub taken : known → moment ≡ next_moment moments
+  pub holds : Holds moment
+
+-- at that moment, of a run that begins in this state. Where it is Done the screen was given all pages of the entries
+-- that are due, and OUT holds the image without these entries. Where it is WriteFault the screen was given a prefix of
+-- the pages, and where it is NoMemory no page, and every file is as before. Where nothing outside failed it is Done, or
+-- NoMemory
+pub record Follows (form : Form) (start : State) (a b : Scene) (result : Status) (moment : ℕ) : Type 0 where
+  pub shown : result ≡ status.Done → b.screen ≡ add a.screen (pages moment start)
   pub saved : result ≡ status.Done → IsTrue b.disk.tells
-      → b.disk.files form.out ≡ Some (image_text (without_due (next_moment a.moments) start))
-  pub cut : result ≡ status.WriteFault
-      → AddsPart a.screen b.screen (pages (next_moment a.moments) start) × AreKept a.disk b.disk
+      → b.disk.files form.out ≡ Some (image_text (without_due moment start))
+  pub cut : result ≡ status.WriteFault → AddsPart a.screen b.screen (pages moment start) × AreKept a.disk b.disk
   pub unshown : result ≡ status.NoMemory → AddsPart a.screen b.screen (message status.NoMemory) × AreKept a.disk b.disk
   pub complete : IsQuiet a.faults b.faults → IsQuiet a.disk.faults b.disk.faults
       → (result ≡ status.Done) ⊎ (result ≡ status.NoMemory)
@@ -142,4 +147,5 @@ pub record Course (known : Type 0) (form : Form) (a b : Scene) (result : Status)
   pub cause : ScreenCause a.faults b.faults result
   pub host_cause : HostCause a.disk.faults b.disk.faults result
   pub start : InputCause a.disk form.input result
-  pub follows : known → (start : State) → Starts a.disk form.input start → Follows form start a b result
+  pub follows : (start : State) → Starts a.disk form.input start
+      → AtMoment known a.moments (Follows form start a b result)

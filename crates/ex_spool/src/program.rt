@@ -12,7 +12,7 @@ ghost use Rattle.ex_system.specs.Messages.{message};
 ghost use Rattle.ex_system.specs.Quiet.{IsQuiet};
 ghost use Rattle.ex_system.specs.Saving.{HostCause};
 ghost use Rattle.ex_spool.specs.Spool.{pages, without_due};
-ghost use Rattle.ex_spool.specs.RunEnd.{AreKept, Asks, IsPrinting, ScreenCause, Stands, StartCause, form_of, scene, usage};
+ghost use Rattle.ex_spool.specs.RunEnd.{AreKept, Asks, AtMoment, Course, IsPrinting, ScreenCause, Stands, StartCause, form_of, scene, usage};
 
 use crate::due::drop_due;
 use crate::pages::show_pages;
@@ -39,6 +39,32 @@ fn usage() -> &'static str
     "Usage: spool20 IN OUT"
 }
 
+// Prints what is due and writes the image without it, as a form asks.
+fn print_form<H: Host, S: Sink, C: Clock>(
+    alloc: Global,
+    form: &ex_system::Form<'_>,
+    host: &mut H,
+    screen: &mut S,
+    clock: &mut C,
+) -> Status
+    ensures { Course (IsTrue C.tells) (form_view form.now)
+        (scene S.Sink screen.old C.Clock clock.old H.Host host.old)
+        (scene S.Sink screen.new C.Clock clock.new H.Host host.new) result }
+{
+    let mut store = match start(alloc, form.input, host) {
+        Ok(store) => store,
+        Err(status) => return refuse(status, screen),
+    };
+    let moment = clock.now();
+    match show_pages(&store, moment, screen) {
+        Put::Done => {
+            drop_due(&mut store, moment);
+            finish(Status::Done, &store, form.out, host, screen)
+        }
+        Put::Failed => Status::WriteFault,
+    }
+}
+
 /// The program `spool20`: shows the pages of the entries of the print queue that are due, and writes the image without
 /// them.
 ///
@@ -53,6 +79,15 @@ pub fn spool20<H: Host, S: Sink, C: Clock>(
     screen: &mut S,
     clock: &mut C,
 ) -> Status
+    // When each status may come.
+    ensures host_cause { HostCause (H.faults host.old) (H.faults host.new) result }
+    ensures cause { ScreenCause (S.faults screen.old) (S.faults screen.new) result }
+    ensures printing { IsPrinting result }
+    ensures usage { (result ≡ Status.Usage) ↔ (form_of words.now ≡ None) }
+    // And by the file IN: NoImage exactly where there is none, ImageTooLarge exactly where it has more bytes than any
+    // image, BadImage exactly where its bytes are no image, with the place and the kind of the first wrong record.
+    ensures start { StartCause (disk_of H.Host host.old) (form_of words.now) result }
+
     // [due-entry] Where the run is Done, the screen was given the pages of the entries that are due, in their order ..
     ensures shown { IsTrue C.tells → result ≡ Status.Done
         → (form : Form) → (start : State) → Asks (form_of words.now) (disk_of H.Host host.old) form start
@@ -61,13 +96,15 @@ pub fn spool20<H: Host, S: Sink, C: Clock>(
     ensures saved { IsTrue C.tells → IsTrue H.tells → result ≡ Status.Done
         → (form : Form) → (start : State) → Asks (form_of words.now) (disk_of H.Host host.old) form start
         → H.files host.new form.out ≡ Some (image_text (without_due (next_moment (C.left clock.old)) start)) }
-    // Where the screen failed it was given a prefix of the pages, and every file is as before.
-    ensures cut { IsTrue C.tells → result ≡ Status.WriteFault
+    // Whatever the clock tells: where the screen failed it was given a prefix of the pages of a moment, that of the
+    // clock where it tells, and every file is as before.
+    ensures cut { result ≡ Status.WriteFault
         → (form : Form) → (start : State) → Asks (form_of words.now) (disk_of H.Host host.old) form start
-        → AddsPart (S.contents screen.old) (S.contents screen.new) (pages (next_moment (C.left clock.old)) start)
-        × AreKept (disk_of H.Host host.old) (disk_of H.Host host.new) }
+        → AtMoment (IsTrue C.tells) (C.left clock.old) (λ moment.
+        AddsPart (S.contents screen.old) (S.contents screen.new) (pages moment start)
+        × AreKept (disk_of H.Host host.old) (disk_of H.Host host.new)) }
     // Where memory runs out no page was shown, and every file is as before.
-    ensures unshown { IsTrue C.tells → result ≡ Status.NoMemory
+    ensures unshown { result ≡ Status.NoMemory
         → (form : Form) → (start : State) → Asks (form_of words.now) (disk_of H.Host host.old) form start
         → AddsPart (S.contents screen.old) (S.contents screen.new) (message Status.NoMemory)
         × AreKept (disk_of H.Host host.old) (disk_of H.Host host.new) }
@@ -80,34 +117,13 @@ pub fn spool20<H: Host, S: Sink, C: Clock>(
         (scene S.Sink screen.old C.Clock clock.old H.Host host.old)
         (scene S.Sink screen.new C.Clock clock.new H.Host host.new) result }
 
-    // When each status may come.
-    ensures printing { IsPrinting result }
-    ensures usage { (result ≡ Status.Usage) ↔ (form_of words.now ≡ None) }
-    ensures cause { ScreenCause (S.faults screen.old) (S.faults screen.new) result }
-    ensures host_cause { HostCause (H.faults host.old) (H.faults host.new) result }
-    // And by the file IN: NoImage exactly where there is none, ImageTooLarge exactly where it has more bytes than any
-    // image, BadImage exactly where its bytes are no image, with the place and the kind of the first wrong record.
-    ensures start { StartCause (disk_of H.Host host.old) (form_of words.now) result }
-
     // With words of a form, an image in IN, and nothing outside that fails, the run is Done, or memory runs out.
-    ensures complete { IsTrue C.tells
-        → (form : Form) → (start : State) → Asks (form_of words.now) (disk_of H.Host host.old) form start
+    ensures complete { (form : Form) → (start : State) → Asks (form_of words.now) (disk_of H.Host host.old) form start
         → IsQuiet (S.faults screen.old) (S.faults screen.new) → IsQuiet (H.faults host.old) (H.faults host.new)
         → (result ≡ Status.Done) ⊎ (result ≡ Status.NoMemory) }
 {
     let Some(form) = form_of(words) else {
         return refuse_usage(usage(), screen);
     };
-    let mut store = match start(alloc, form.input, host) {
-        Ok(store) => store,
-        Err(status) => return refuse(status, screen),
-    };
-    let moment = clock.now();
-    match show_pages(&store, moment, screen) {
-        Put::Done => {
-            drop_due(&mut store, moment);
-            finish(Status::Done, &store, form.out, host, screen)
-        }
-        Put::Failed => Status::WriteFault,
-    }
+    print_form(alloc, &form, host, screen, clock)
 }

@@ -1,6 +1,7 @@
 mod Deliveries
 mod Faultless
 mod KnownRuns
+mod LaterActs
 mod LineFields
 mod MailKeys
 mod Mailboxes

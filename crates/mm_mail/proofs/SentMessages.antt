@@ -77,7 +77,7 @@ kept_alone keep row (other ∷ rows) some none = by (is_lt (by_row other row)) (
         kept_upper keep row.key (row ∷ []) (other ∷ rows) none
         ∙ ap (λ (front : List Row). front ++ other ∷ rows) (kept_one keep row some)
 
-added_alone : (keep : ℕ) (row : Row) (rows : List Row) → none_of row.key rows ≡ true
+pub added_alone : (keep : ℕ) (row : Row) (rows : List Row) → none_of row.key rows ≡ true
     → added keep row rows ≡ inserted row rows
 added_alone keep row rows none = by (keep == 0) refl
   where
@@ -87,7 +87,7 @@ added_alone keep row rows none = by (keep == 0) refl
     by false is = kept_alone keep row rows is none
 
 -- the key of the file of a message
-abbrev message_key : List ℕ → ℕ → Key
+abbrev pub message_key : List ℕ → ℕ → Key
 message_key receiver number = own_key (message_place receiver number Next)
 
 numbered_own : (receiver : List ℕ) (number : ℕ) (row : Row) → row.key ≡ message_key receiver number
@@ -97,12 +97,12 @@ numbered_own receiver number row own =
     (sym own)
     (and_from _ _ (and_from _ _ (ap is_eq (text_itself receiver)) (is_message number)) (bytes_eq_itself mail_type))
 
-number_own : (receiver : List ℕ) (number : ℕ) (row : Row) → number ≤ MOST_MESSAGES → row.key ≡ message_key receiver number
+pub number_own : (receiver : List ℕ) (number : ℕ) (row : Row) → number ≤ MOST_MESSAGES → row.key ≡ message_key receiver number
     → name_number row.key.name ≡ number
 number_own receiver number row few own = ap (λ (key : Key). name_number key.name) own ∙ number_of_name number few
 
 -- no file has its key yet, and no message its number
-not_of : (message : Message) (state : State) → number_for message state ≤ MOST_MESSAGES → (before after : List Row) (row : Row)
+pub not_of : (message : Message) (state : State) → number_for message state ≤ MOST_MESSAGES → (before after : List Row) (row : Row)
     → before ++ row ∷ after ≡ state.rows → is_of (message_key message.receiver (number_for message state)) row ≡ false
 not_of message state few before after row among =
     by (is_of (message_key message.receiver (number_for message state)) row) refl
@@ -171,24 +171,24 @@ first_generation key size generation rows none is =
     (limited_roomy (length rows) (total rows) size 1 generation alone).1
 
 -- where a number names one file alone READ of it shows its text
-shows_alone : (number : ℕ) (state : State) (row : Row) → messages_numbered state.connected number state ≡ row ∷ []
+pub shows_alone : (number : ℕ) (state : State) (row : Row) → messages_numbered state.connected number state ≡ row ∷ []
     → reads number state ≡ does (held_text row) state
 unfolding reads
 shows_alone number state row alone = ap (λ (rows : List Row). reads_first rows state) alone
 
 -- the place of its file, what that holds, and its row
-abbrev place_of : Message → State → Place
+abbrev pub place_of : Message → State → Place
 place_of message state = message_place message.receiver (number_for message state) Next
 
-abbrev bytes_of : Message → State → List ℕ
+abbrev pub bytes_of : Message → State → List ℕ
 bytes_of message state = message_bytes state.connected message.subject message.typed
 
-abbrev row_of : Message → State → ℕ → Row
+abbrev pub row_of : Message → State → ℕ → Row
 row_of message state generation =
     written_row (place_of message state) (keep_at (retention_at (place_of message state) state) (own_key (place_of message state)) state.rows)
     message.moment (bytes_of message state) generation
 
-has_name : (message : Message) (state : State) → lacks_name (place_of message state) ≡ false
+pub has_name : (message : Message) (state : State) → lacks_name (place_of message state) ≡ false
 unfolding prefix mail_type
 has_name message state = refl
 

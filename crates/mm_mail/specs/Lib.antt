@@ -2,6 +2,7 @@ pub mod Command
 pub mod Delivery
 pub mod Form
 pub mod Graph
+pub mod LaterAct
 pub mod LineKeeping
 pub mod MailLaws
 pub mod MailRules

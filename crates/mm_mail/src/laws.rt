@@ -20,6 +20,7 @@ ghost use Rattle.ex_commands.specs.declared.acted.Acted.TheVariants as answers;
 ghost use Rattle.mm_mail.specs.Command.{MayAct, command_of};
 ghost use Rattle.mm_mail.specs.Delivery.{IsRead, number_for, sends};
 ghost use Rattle.mm_mail.specs.Graph.{mail_graph};
+ghost use Rattle.mm_mail.specs.LaterAct.{AllSpare, MailAct, state_after};
 ghost use Rattle.mm_mail.specs.Mailbox.{is_numbered_in};
 ghost use Rattle.mm_mail.specs.MailRules.{mail_meanings};
 ghost use Rattle.mm_mail.specs.MailRun.{mail_trace};
@@ -89,10 +90,14 @@ pub fn a_message_has_a_number_of_its_own()
 
 /// What is sent is read: a message that is sent is a message of its receiver's, the only one with its number, not
 /// marked as deleted; its file holds sender, subject and what was typed in, byte for byte; and READ of that number by
-/// its receiver shows it.
+/// its receiver shows it. So it stays after any number of later lines and messages that are sent, in which no DELETE
+/// names it.
 pub fn what_is_sent_is_read()
-    ensures { (message : Message) → (state : State) → (sends message state).answer ≡ answers.Ok
+    ensures sent { (message : Message) → (state : State) → (sends message state).answer ≡ answers.Ok
         → IsRead message state (sends message state).state }
+    ensures later { (message : Message) → (state left : State) → (acts : List MailAct) → IsRead message state left
+        → AllSpare message.receiver (number_for message state) left acts
+        → IsRead message state (state_after left acts) }
 {}
 
 /// Past the first prompt memory runs out at two kinds of keys alone: one that finishes a line of SEND, and control-Z,

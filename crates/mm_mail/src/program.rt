@@ -1,5 +1,5 @@
 // The program over what is outside of it.
-ghost use Rattle.std.specs.Prelude.{◌≡◌, ◌⊎◌, ◌<◌, ◌↔◌, ◌+◌, ℕ, false, List, ◌++◌, length, None, Some, IsTrue};
+ghost use Rattle.std.specs.Prelude.{◌≡◌, ◌⊎◌, ◌≤◌, ◌<◌, ◌↔◌, ◌+◌, ℕ, false, List, ◌++◌, length, None, Some, IsTrue};
 ghost use Rattle.cm_io.specs.Contents.{add};
 ghost use Rattle.cm_run.specs.Cause.{counts};
 ghost use Rattle.cm_run.specs.Event.{trials_of};
@@ -14,7 +14,7 @@ ghost use Rattle.ex_system.specs.Form.{Form};
 ghost use Rattle.ex_system.specs.Quiet.{IsQuiet};
 ghost use Rattle.ex_system.specs.Saving.{HostCause};
 ghost use Rattle.ex_run.specs.Cause.{StatusCause};
-ghost use Rattle.ex_run.specs.Course.{Asks, Course, StartCause};
+ghost use Rattle.ex_run.specs.Course.{Asks, Course, IsHalt, StartCause};
 ghost use Rattle.ex_run.specs.Scene.{telling, unlogged_scene};
 ghost use Rattle.ex_run.specs.declared.program.TheConstants.{KEY_LIMIT};
 ghost use Rattle.mm_mail.specs.Form.{form_of};
@@ -99,6 +99,16 @@ pub fn mm20<H: Host, K: Source, S: Sink, C: Clock, L: Ledger>(
     clock: &mut C,
     steps: &mut Steps<L>,
 ) -> Status
+    // When each status may come, by what failed outside ..
+    ensures host_cause { HostCause (H.faults host.old) (H.faults host.new) result }
+    ensures cause { StatusCause (counts (S.faults screen.old) 0 (K.faults keys.old))
+        (counts (S.faults screen.new) 0 (K.faults keys.new)) result }
+    // .. by the words ..
+    ensures usage { (result ≡ Status.Usage) ↔ (form_of words.now ≡ None) }
+    // .. and by the file IN: NoImage exactly where there is none, ImageTooLarge exactly where it has more bytes than
+    // any image, BadImage exactly where its bytes are no image, with the place and the kind of the first wrong record.
+    ensures start { StartCause (disk_of H.Host host.old) (form_of words.now) result }
+
     // Where the run is Done, the screen was given what the run over all keys shows, from the state whose image the file
     // IN has ..
     ensures done_shown { IsTrue K.tells → IsTrue C.tells → result ≡ Status.Done
@@ -113,6 +123,20 @@ pub fn mm20<H: Host, K: Source, S: Sink, C: Clock, L: Ledger>(
         → (form : Form) → (start : State) → Asks (form_of words.now) (disk_of H.Host host.old) form start
         → H.files host.new form.out
         ≡ Some (image_text (mail_left start (C.left clock.old) (K.left keys.old)).state) }
+    // Whatever the status, the counter has risen by no more than the trials of all keys cost ..
+    ensures most { IsTrue K.tells → IsTrue C.tells → (form : Form) → (start : State)
+        → Asks (form_of words.now) (disk_of H.Host host.old) form start
+        → steps.new ≤ steps.old + trials_of (mail_trace start (C.left clock.old) (K.left keys.old)) }
+    // .. and at ReadFault and KeyLimit by exactly what those of the keys that were taken cost ..
+    ensures counted { IsTrue K.tells → IsTrue C.tells → IsHalt result → (form : Form) → (start : State)
+        → Asks (form_of words.now) (disk_of H.Host host.old) form start
+        → (taken : List ℕ) → taken ++ K.left keys.new ≡ K.left keys.old
+        → steps.new ≡ steps.old + trials_of (mail_trace start (C.left clock.old) taken) }
+    // .. which come only where QUIT has not acted.
+    ensures halted { IsTrue K.tells → IsTrue C.tells → IsHalt result → (form : Form) → (start : State)
+        → Asks (form_of words.now) (disk_of H.Host host.old) form start
+        → (taken : List ℕ) → taken ++ K.left keys.new ≡ K.left keys.old
+        → (mail_left start (C.left clock.old) taken).ended ≡ false }
 
     // After each beginning of the keys taken the screen shows the prompt and the line as they then are, where the next
     // key is for a line: all that the run over them shows leaves both on any screen whose last row was blank.
@@ -129,26 +153,16 @@ pub fn mm20<H: Host, K: Source, S: Sink, C: Clock, L: Ledger>(
         (unlogged_scene S.Sink screen.new K.Source keys.new C.Clock clock.new steps.new)
         (disk_of H.Host host.old) (disk_of H.Host host.new) result }
 
-    // When each status may come.
-    ensures usage { (result ≡ Status.Usage) ↔ (form_of words.now ≡ None) }
-    ensures cause { StatusCause (counts (S.faults screen.old) 0 (K.faults keys.old))
-        (counts (S.faults screen.new) 0 (K.faults keys.new)) result }
-    ensures host_cause { HostCause (H.faults host.old) (H.faults host.new) result }
-
-    // And by the file IN: NoImage exactly where there is none, ImageTooLarge exactly where it has more bytes than any
-    // image, BadImage exactly where its bytes are no image, with the place and the kind of the first wrong record.
-    ensures start { StartCause (disk_of H.Host host.old) (form_of words.now) result }
-
     // With words of a form, an image in IN, fewer keys than a run takes, and nothing outside that fails, the run is
-    // Done.
+    // Done, or memory runs out.
     ensures complete { IsTrue K.tells → (form : Form) → (start : State)
         → Asks (form_of words.now) (disk_of H.Host host.old) form start
         → length (K.left keys.old) < KEY_LIMIT
         → IsQuiet (S.faults screen.old) (S.faults screen.new) → IsQuiet (K.faults keys.old) (K.faults keys.new)
         → IsQuiet (H.faults host.old) (H.faults host.new)
         → (result ≡ Status.Done) ⊎ (result ≡ Status.NoMemory) }
-    // With as many keys as a run takes, in which QUIT does not act, it is KeyLimit. QUIT is not to act at the moments
-    // that the clock tells, or where it tells none, whatever they are.
+    // With as many keys as a run takes, in which QUIT does not act, it is KeyLimit, or memory runs out. QUIT is not to
+    // act at the moments that the clock tells, or where it tells none, whatever they are.
     ensures limit { IsTrue K.tells → (form : Form) → (start : State)
         → Asks (form_of words.now) (disk_of H.Host host.old) form start
         → (taken rest : List ℕ) → taken ++ rest ≡ K.left keys.old → length taken ≡ KEY_LIMIT

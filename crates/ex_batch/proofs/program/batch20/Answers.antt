@@ -1,37 +1,29 @@
+use Rattle.ex_batch.proofs.Clocks.{moments_hold}
 use Rattle.ex_batch.proofs.program.batch20.Goals as goal
 
 pub returns-clause-whole : goal.returns-clause-whole
-returns-clause-whole g c = λ clock whole asked start asks. (c.run_words.ensures.follows clock asked start asks).ends whole
+returns-clause-whole g c = λ whole asked start asks.
+    moments_hold (c.run_words.ensures.follows asked start asks) (λ moments follows. follows.ends whole)
 
 pub returns-clause-shown : goal.returns-clause-shown
-returns-clause-shown g c = λ clock whole asked start asks. (c.run_words.ensures.follows clock asked start asks).shown whole
+returns-clause-shown g c = λ whole asked start asks.
+    moments_hold (c.run_words.ensures.follows asked start asks) (λ moments follows. follows.shown whole)
 
 pub returns-clause-counted : goal.returns-clause-counted
-returns-clause-counted g c = λ clock whole asked start asks. (c.run_words.ensures.follows clock asked start asks).counted whole
+returns-clause-counted g c = λ whole asked start asks.
+    moments_hold (c.run_words.ensures.follows asked start asks) (λ moments follows. follows.counted whole)
 
 pub returns-clause-saved : goal.returns-clause-saved
-returns-clause-saved g c = λ clock host whole asked start asks. (c.run_words.ensures.follows clock asked start asks).saved whole host
+returns-clause-saved g c = λ host whole asked start asks.
+    moments_hold (c.run_words.ensures.follows asked start asks) (λ moments follows. follows.saved whole host)
 
 pub returns-clause-stands : goal.returns-clause-stands
 returns-clause-stands g c = c.run_words.ensures.stands
 
 pub returns-clause-most : goal.returns-clause-most
-returns-clause-most g c = λ clock asked start asks. (c.run_words.ensures.follows clock asked start asks).most
-
-pub returns-clause-batch : goal.returns-clause-batch
-returns-clause-batch g c = c.run_words.ensures.batch
-
-pub returns-clause-usage : goal.returns-clause-usage
-returns-clause-usage g c = c.run_words.ensures.usage
-
-pub returns-clause-cause : goal.returns-clause-cause
-returns-clause-cause g c = c.run_words.ensures.cause
-
-pub returns-clause-host_cause : goal.returns-clause-host_cause
-returns-clause-host_cause g c = c.run_words.ensures.host_cause
-
-pub returns-clause-start : goal.returns-clause-start
-returns-clause-start g c = c.run_words.ensures.start
+returns-clause-most g c = λ asked start asks.
+    moments_hold (c.run_words.ensures.follows asked start asks) (λ moments follows. follows.most)
 
 pub returns-clause-complete : goal.returns-clause-complete
-returns-clause-complete g c = λ clock asked start asks screen host. (c.run_words.ensures.follows clock asked start asks).complete screen host
+returns-clause-complete g c = λ asked start asks screen host.
+    moments_hold (c.run_words.ensures.follows asked start asks) (λ moments follows. follows.complete screen host)

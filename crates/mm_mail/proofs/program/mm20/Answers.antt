@@ -1,4 +1,4 @@
-use Rattle.std.proofs.Common.{◌+◌, Bool, Some, ap, arith, refl, ◌∙◌}
+use Rattle.std.proofs.Common.{◌+◌, ◌≤◌, Bool, Some, ap, arith, refl, subst, sym, ◌∙◌}
 use Rattle.cm_io.specs.Contents.{add}
 use Rattle.cm_run.specs.Event.{trials_of}
 use Rattle.ex_image.specs.Image.{image_text}
@@ -30,18 +30,30 @@ returns-clause-done_saved g c = λ keys clock host done form start asks.
     ∙ ap (λ (logs : Bool). Some (image_text (left_of mail_over logs start (g.C.Clock.left c.args.clock.now) (g.K.Source.left c.args.keys.now)).state))
     (unlogged c.args.words.now form asks.0)
 
+pub returns-clause-most : goal.returns-clause-most
+returns-clause-most g c = λ keys clock form start asks.
+    subst (λ (logs : Bool). c.run_form.new.steps ≤ c.args.steps.now + trials_of (trace_of mail_over logs start (g.C.Clock.left c.args.clock.now) (g.K.Source.left c.args.keys.now)))
+    (unlogged c.args.words.now form asks.0)
+    ((heads _ mail_over _ (form_view c.in-Some.form) _ _ _ _ c.run_form.result c.in-Some.ensures c.run_form.ensures).follows (keys, clock) form start asks).most
+
+pub returns-clause-counted : goal.returns-clause-counted
+returns-clause-counted g c = λ keys clock halt form start asks taken all.
+    (((heads _ mail_over _ (form_view c.in-Some.form) _ _ _ _ c.run_form.result c.in-Some.ensures c.run_form.ensures).follows (keys, clock) form start asks).halted halt taken all).counted
+    ∙ ap (λ (logs : Bool). c.args.steps.now + trials_of (trace_of mail_over logs start (g.C.Clock.left c.args.clock.now) taken))
+    (unlogged c.args.words.now form asks.0)
+
+pub returns-clause-halted : goal.returns-clause-halted
+returns-clause-halted g c = λ keys clock halt form start asks taken all.
+    sym (ap (λ (logs : Bool). has_ended mail_over (left_of mail_over logs start (g.C.Clock.left c.args.clock.now) taken)) (unlogged c.args.words.now form asks.0)
+    ∙ ended_where (mail_left start (g.C.Clock.left c.args.clock.now) taken))
+    ∙ (((heads _ mail_over _ (form_view c.in-Some.form) _ _ _ _ c.run_form.result c.in-Some.ensures c.run_form.ensures).follows (keys, clock) form start asks).halted halt taken all).going
+
 pub returns-clause-on_screen : goal.returns-clause-on_screen
 returns-clause-on_screen g c = λ keys clock form start asks taken rest all.
     ((heads _ mail_over _ (form_view c.in-Some.form) _ _ _ _ c.run_form.result c.in-Some.ensures c.run_form.ensures).follows (keys, clock) form start asks).on_screen taken rest all
 
 pub returns-clause-usage : goal.returns-clause-usage
 returns-clause-usage g c = no_usage _ (form_view c.in-Some.form) c.run_form.result c.in-Some.ensures c.run_form.ensures.usage
-
-pub returns-clause-cause : goal.returns-clause-cause
-returns-clause-cause g c = c.run_form.ensures.cause
-
-pub returns-clause-host_cause : goal.returns-clause-host_cause
-returns-clause-host_cause g c = c.run_form.ensures.host_cause
 
 pub returns-clause-start : goal.returns-clause-start
 returns-clause-start g c =
