@@ -12,6 +12,21 @@ fn probes(items: &[u16], wanted: u16) -> u64 {
     probes
 }
 
+// The same, and how often its test is asked, by the count of the test itself.
+fn asked(items: &[u16], wanted: u16) -> (u64, u64) {
+    let mut probes = 0;
+    let mut calls = 0_u64;
+    seek(
+        items,
+        |item| {
+            calls = calls.saturating_add(1);
+            *item < wanted
+        },
+        &mut probes,
+    );
+    (probes, calls)
+}
+
 // The numbers 0, 1, 2, .. in their order.
 fn numbers<const N: usize>() -> [u16; N] {
     let mut items = [0; N];
@@ -28,6 +43,15 @@ fn a_search_of_1024_elements_asks_11_times(rt: HostRuntime) {
     let items = numbers::<1024>();
     for wanted in [0, 1, 511, 512, 513, 1023, 1024] {
         assert!(rt; probes(&items, wanted) <= 11, "at {wanted}");
+    }
+}
+
+#[test]
+fn a_search_asks_as_often_as_its_counter_says(rt: HostRuntime) {
+    let items = numbers::<1024>();
+    for size in 0..1025_usize {
+        let (probes, calls) = asked(&items[..size], (size / 3) as u16);
+        assert!(rt; calls == probes, "of {size}");
     }
 }
 

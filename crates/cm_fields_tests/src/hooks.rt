@@ -48,7 +48,7 @@ impl Rules for Sample {
 }
 
 #[tactic(auto, unfolding(cm_fields::specs::Reason::is_reason, cm_fields::specs::Reason::is_reason_text))]
-fn five_bytes() -> Reason
+pub(crate) fn five_bytes() -> Reason
     ensures { result ≡ record { number = 200; text = codes "Five bytes" } }
 {
     Reason::of(200, "Five bytes")
@@ -64,22 +64,36 @@ AB ABCDE\r|3|Refuse { code: Own(Reason { number: 200, text: \"Five bytes\" }), l
 AB .|3|Refuse { code: NoField, looked: 1 }
 AB |3|More";
 
-fn judges_a_field(rt: &impl Abort, alloc: Global, case: &str) -> Result<(), Fail> {
+fn judges_a_field(
+    rt: &impl Abort,
+    alloc: Global,
+    rules: &impl Rules,
+    case: &str,
+) -> Result<(), Fail> {
     let text = part(rt, case, 0).as_bytes();
     let at = usize::from(number(rt, part(rt, case, 1)));
     assert!(rt; at <= text.len() && text.len() <= 256, "{case}");
-    let tried = hook_field(&Sample, 2, text, at);
+    let tried = hook_field(rules, 2, text, at);
     is_wanted(rt, case, format!(in alloc; "{tried:?}")?.as_str());
+    Ok(())
+}
+
+// The rules make of the texts what is wanted.
+pub(crate) fn judges_fields(
+    rt: &impl Abort,
+    alloc: Global,
+    rules: &impl Rules,
+) -> Result<(), Fail> {
+    for case in FIELDS.lines() {
+        judges_a_field(rt, alloc, rules, case)?;
+    }
     Ok(())
 }
 
 // [own-field]
 #[test]
 fn rules_judge_a_field(rt: HostRuntime) -> Result<(), Fail> {
-    for case in FIELDS.lines() {
-        judges_a_field(&rt, rt.alloc(), case)?;
-    }
-    Ok(())
+    judges_fields(&rt, rt.alloc(), &Sample)
 }
 
 // A lamp, which lends its name.
@@ -170,12 +184,11 @@ fn without_rules_no_field_is_taken(rt: HostRuntime) -> Result<(), Fail> {
     Ok(())
 }
 
-// STAIR is the beginning of STAIRS. Two names go on alike but for the case of letters.
+// STAIR is the beginning of STAIRS, and stands for itself. Two names go on alike but for the case of letters.
 const NAMES: [&str; 7] = [
     "HALL", "KITCHEN", "STAIRS", "STAIR", "STUDY", "Porch", "PORT-2$_",
 ];
 
-// The shorter of STAIR and STAIRS is a beginning of both.
 const VERDICTS: &str = "\
 |No
 H|Yes(0)
@@ -185,7 +198,8 @@ kit|Yes(1)
 S|No
 ST|No
 STA|No
-STAIR|No
+STAIR|Yes(3)
+stair|Yes(3)
 stairs|Yes(2)
 STU|Yes(4)
 por|No
@@ -209,7 +223,7 @@ fn one_name_is_told_by_its_beginning(rt: HostRuntime) -> Result<(), Fail> {
 }
 
 // What a completion adds, and whether the atom is whole with it.
-fn shown(tail: &Tail) -> Option<(&str, bool)> {
+pub(crate) fn shown(tail: &Tail) -> Option<(&str, bool)> {
     match tail {
         Tail::None => None,
         Tail::Part(text) => Some((text.as_str(), false)),
@@ -217,7 +231,7 @@ fn shown(tail: &Tail) -> Option<(&str, bool)> {
     }
 }
 
-// The shorter of STAIR and STAIRS is a beginning of both. Two that go on alike but for their case share nothing more.
+// Two that go on alike but for their case share nothing more.
 const TAILS: &str = "\
 |None
 H|Some((\"ALL\", true))
@@ -227,7 +241,8 @@ HALLS|None
 S|Some((\"T\", false))
 ST|Some((\"\", false))
 STA|Some((\"IR\", false))
-STAIR|Some((\"\", false))
+STAIR|Some((\"\", true))
+stair|Some((\"\", true))
 STAIRS|Some((\"\", true))
 P|Some((\"\", false))
 po|Some((\"\", false))
@@ -261,4 +276,15 @@ fn of_no_names_none_is_told(rt: HostRuntime) {
 fn a_name_of_no_bytes_begins_with_the_empty_atom_alone(rt: HostRuntime) {
     assert_eq!(rt; verdict_among(&["", "A"], b""), Answer::No);
     assert_eq!(rt; verdict_among(&["", "A"], b"A"), Answer::Yes(1));
+}
+
+#[test]
+#[tactic(auto, unfolding(cm_text::specs::Bytes::is_name, cm_text::specs::Bytes::is_word))]
+fn of_two_equal_names_none_is_told(rt: HostRuntime) {
+    let names = ["HALL", "Hall", "HALLWAY"];
+    assert_eq!(rt; verdict_among(&names, b"hall"), Answer::No);
+    assert_eq!(rt;
+        shown(&completion_among(&names, b"hall")),
+        Some(("", false))
+    );
 }

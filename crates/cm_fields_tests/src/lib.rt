@@ -21,6 +21,12 @@ mod outside;
 #[cfg(test)]
 mod reasons;
 #[cfg(test)]
+mod std_log;
+#[cfg(test)]
+mod stored;
+#[cfg(test)]
 mod tables;
 #[cfg(test)]
 mod texts;
+#[cfg(test)]
+mod walk;

@@ -49,7 +49,11 @@ fn entry_of(rt: &impl Abort, keyword: &str) -> Entry {
     }
 }
 
-fn entries_of(rt: &impl Abort, alloc: Global, keywords: &str) -> Result<Vec<Entry>, AllocError> {
+pub(crate) fn entries_of(
+    rt: &impl Abort,
+    alloc: Global,
+    keywords: &str,
+) -> Result<Vec<Entry>, AllocError> {
     let mut entries = Vec::new(alloc);
     for keyword in keywords.split_whitespace() {
         entries.push(entry_of(rt, keyword))?;

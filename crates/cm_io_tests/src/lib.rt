@@ -8,6 +8,7 @@ mod part_sink;
 mod pieces;
 mod text;
 mod trace;
+mod watch;
 
 pub use ends::{closing, status_of};
 pub use failing::{Failing, NOTHING, has_image};
@@ -15,3 +16,4 @@ pub use part_sink::{Part, PartSink};
 pub use pieces::is_written;
 pub use text::{bytes_of, push_text};
 pub use trace::{Faults, Stands, Stop, stands_at};
+pub use watch::{Counted, Watcher};

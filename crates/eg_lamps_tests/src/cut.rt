@@ -1,5 +1,5 @@
 // Runs that a fault of the outside cuts short.
-use crate::given::{are_at, leaves, outcome_of};
+use crate::given::{End, leaves, outcome_of};
 use cm_io::NoMemory;
 use cm_run::{Stop, status_of};
 use std::test::Fail;
@@ -19,10 +19,13 @@ struct Cut<'a> {
 
 fn is_so(runtime: &HostRuntime, cut: &Cut<'_>) -> Result<bool, NoMemory> {
     let mut outcome = outcome_of(runtime, KEYS, cut.failing_get, cut.room)?;
+    let end = End {
+        result: Err(cut.why),
+        levels: [cut.brightness, 0, 0, 0],
+    };
     Ok(
-        outcome.result == Err(cut.why)
+        outcome.end == end
             && outcome.screen.bytes() == cut.screen
-            && are_at(&outcome.program, [cut.brightness, 0, 0, 0])
             && leaves(&mut outcome.keys, cut.left),
     )
 }

@@ -2,14 +2,11 @@
 //
 // What must stand is the trace of the whole session, cut where a call fails. The screen fails in one put alone, and
 // would take what is put after it.
-use crate::given::run_program;
+use crate::given::{End, run_lamps};
 use cm_io::{Got, MemSource, NoMemory, Source};
 use cm_io_tests::{Faults, Part, PartSink, Stop as Cut, stands_at};
 use cm_run::Stop;
-use eg_lamps::Program;
 use std::alloc::{AllocError, Global};
-use std::marker::Brand;
-use std::sync::ledger::Blank;
 use std::test::Fail;
 
 const KEYS: &[u8] = b"S H 7\rD H\rQ\rX";
@@ -51,8 +48,7 @@ const PARTS: [Part; 3] = [Part::Nothing, Part::First, Part::AllButLast];
 // What is at the end of a session, and how many keys are left.
 #[derive(Drop)]
 struct Outcome {
-    result: Result<(), Stop>,
-    level: u64,
+    end: End,
     left: usize,
     screen: PartSink,
 }
@@ -75,19 +71,11 @@ fn session(
     put: Option<usize>,
     part: Part,
 ) -> Result<Outcome, NoMemory> {
-    let mut program = Program::new();
     let mut keys = MemSource::new(runtime.alloc(), KEYS, get)?;
     let mut screen = PartSink::new(runtime.alloc(), 4096, put, part)?;
-    let result = run_program::<MemSource, PartSink, Brand>(
-        runtime,
-        Blank::new(1),
-        &mut program,
-        &mut keys,
-        &mut screen,
-    );
+    let end = run_lamps(runtime, &mut keys, &mut screen)?;
     Ok(Outcome {
-        result,
-        level: program.lamps[0].brightness,
+        end,
         left: count_left(&mut keys),
         screen,
     })
@@ -105,12 +93,12 @@ fn end_of(cut: Cut) -> Result<(), Stop> {
 // Whether what stands is the trace, cut by these faults.
 fn is_cut(alloc: Global, outcome: &Outcome, faults: &Faults) -> Result<bool, AllocError> {
     let wanted = stands_at(alloc, TRACE, faults)?;
-    let level = format!(in alloc; "{}", outcome.level)?;
+    let level = format!(in alloc; "{}", outcome.end.levels[0])?;
     Ok(
         outcome.screen.bytes() == wanted.screen.as_slice()
             && level.as_bytes() == wanted.state.as_slice()
             && outcome.left.saturating_add(wanted.gets) == KEYS.len()
-            && outcome.result == end_of(wanted.stop),
+            && outcome.end.result == end_of(wanted.stop),
     )
 }
 
@@ -124,7 +112,7 @@ fn try_get(runtime: &HostRuntime, get: u32) -> Result<(), Fail> {
     if is_cut(runtime.alloc(), &outcome, &faults)? {
         return Ok(());
     }
-    Err(Fail::new(format_args!("get {get}: {:?}", outcome.result)))
+    Err(Fail::new(format_args!("get {get}: {:?}", outcome.end.result)))
 }
 
 fn try_put(runtime: &HostRuntime, put: usize, part: Part, whole: &Outcome) -> Result<(), Fail> {
@@ -137,7 +125,7 @@ fn try_put(runtime: &HostRuntime, put: usize, part: Part, whole: &Outcome) -> Re
     if is_cut(runtime.alloc(), &outcome, &faults)? {
         return Ok(());
     }
-    Err(Fail::new(format_args!("put {put} {part:?}: {:?}", outcome.result)))
+    Err(Fail::new(format_args!("put {put} {part:?}: {:?}", outcome.end.result)))
 }
 
 fn try_puts(runtime: &HostRuntime, part: Part) -> Result<(), Fail> {

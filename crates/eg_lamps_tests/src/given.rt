@@ -1,22 +1,31 @@
 // What the runs of the tests are given, and what is to be at their ends.
-ghost use Rattle.std.specs.Prelude.{◌≡◌, ◌<◌};
+ghost use Rattle.std.specs.Prelude.{◌≡◌, ◌≤◌, length};
+ghost use Rattle.cm_text.specs.declared.text.TheConstants.{LINE_LIMIT};
+ghost use Rattle.cm_hooks.specs.Meanings.{held_meanings};
+ghost use Rattle.eg_lamps.specs.Graph.{lamp_graph};
+ghost use Rattle.eg_lamps.specs.Lamps.{lamp_meanings};
 
-use cm_blocks::Steps;
+use cm_blocks::Grammar;
+use cm_hooks::{Answer, Callbacks, Hook, Hooks, Rules, StoredRules, Tail};
 use cm_io::{Got, MemSink, MemSource, NoMemory, Sink, Source};
-use cm_run::{Stop, run_line_program};
-use eg_lamps::Program;
+use cm_run::{Stop, run_over_streams};
 use eg_lamps::grammar::grammar;
-use std::marker::Brand;
-use std::sync::ledger::{Blank, Ledger};
+use eg_lamps::{Program, RoomRules};
 use std::test::Fail;
 
 // What is at the end of a run.
 #[derive(Drop)]
 pub struct Outcome {
-    pub result: Result<(), Stop>,
-    pub program: Program,
+    pub end: End,
     pub keys: MemSource,
     pub screen: MemSink,
+}
+
+// How a run ended, and how bright the lamps are then, one by one.
+#[derive(Clone, Copy, Debug, PartialEq, Eq)]
+pub struct End {
+    pub result: Result<(), Stop>,
+    pub levels: [u64; 4],
 }
 
 // A run over these keys, of which one may fail, on a screen with so much room.
@@ -27,20 +36,10 @@ pub(crate) fn outcome_of(
     room: u32,
 ) -> Result<Outcome, NoMemory> {
     let alloc = runtime.alloc();
-    let mut outcome = Outcome {
-        result: Err(Stop::Memory),
-        program: Program::new(),
-        keys: MemSource::new(alloc, keys, failing_get)?,
-        screen: MemSink::new(alloc, room)?,
-    };
-    outcome.result = run_program::<MemSource, MemSink, Brand>(
-        runtime,
-        Blank::new(1),
-        &mut outcome.program,
-        &mut outcome.keys,
-        &mut outcome.screen,
-    );
-    Ok(outcome)
+    let mut keys = MemSource::new(alloc, keys, failing_get)?;
+    let mut screen = MemSink::new(alloc, room)?;
+    let end = run_lamps(runtime, &mut keys, &mut screen)?;
+    Ok(Outcome { end, keys, screen })
 }
 
 // Whether these keys are left, and no more.
@@ -51,16 +50,6 @@ pub(crate) fn leaves(keys: &mut MemSource, left: &[u8]) -> bool {
         }
     }
     keys.get() == Got::End
-}
-
-// Whether the lamps are as bright as this, one by one.
-pub(crate) fn are_at(program: &Program, levels: [u64; 4]) -> bool {
-    for (lamp, level) in program.lamps.iter().zip(levels) {
-        if lamp.brightness != level {
-            return false;
-        }
-    }
-    true
 }
 
 // A run that goes to its end, what it shows, and how bright the lamps are at its end.
@@ -83,29 +72,81 @@ pub(crate) fn try_cases(runtime: &HostRuntime, cases: &[Case<'_>]) -> Result<(),
 
 fn is_so(runtime: &HostRuntime, case: &Case<'_>) -> Result<bool, NoMemory> {
     let mut outcome = outcome_of(runtime, case.keys, None, 4096)?;
+    let end = End {
+        result: Ok(()),
+        levels: case.levels,
+    };
     Ok(
-        outcome.result == Ok(())
+        outcome.end == end
             && outcome.screen.bytes() == case.screen
-            && are_at(&outcome.program, case.levels)
             && leaves(&mut outcome.keys, b""),
     )
 }
 
-// Makes the grammar and the counter of trials, and runs the program, as its `main` does.
-pub(crate) fn run_program<K: Source, S: Sink, L: Ledger>(
+// Makes the grammar, stores the functions that read a room, and runs the program, as its `main` does.
+pub(crate) fn run_lamps<K: Source, S: Sink>(
     rt: &HostRuntime,
-    blank: Blank,
-    program: &mut Program,
     keys: &mut K,
     screen: &mut S,
-) -> Result<(), Stop>
-    requires name { blank.name ≡ L.name }
-    requires parts { blank.parts ≡ L.parts }
-    requires some { 0 < L.parts }
+) -> Result<End, NoMemory> {
+    let alloc = rt.alloc();
+    let grammar = grammar(alloc)?;
+    let verdict = |atom: &[u8]| -> Answer
+        requires { length atom.now ≤ LINE_LIMIT }
+    { RoomRules.verdict(0, atom) };
+    let completion = |atom: &[u8]| -> Tail
+        requires { length atom.now ≤ LINE_LIMIT }
+    { RoomRules.completion(0, atom) };
+    let help = || Rules::help(&RoomRules, 0);
+    let hook = Hook::new(
+        0,
+        Box::new(alloc, verdict)?,
+        Box::new(alloc, completion)?,
+        Box::new(alloc, help)?,
+    );
+    let mut hooks: Hooks<RoomRules> = Hooks::new();
+    match hooks.push(hook) {
+        Ok(()) => Ok(run_stored(rt, &grammar, hooks.lend(), keys, screen)),
+        Err(_) => unreachable!(),
+    }
+}
+
+// Runs the program over stored functions.
+fn run_stored<H: Callbacks, K: Source, S: Sink>(
+    rt: &HostRuntime,
+    grammar: &Grammar,
+    hooks: H,
+    keys: &mut K,
+    screen: &mut S,
+) -> End
+    requires grammar { grammar.now ≡ lamp_graph }
+    requires ties { H.ties hooks }
+    requires rooms { held_meanings (H.count hooks) H.meant ≡ lamp_meanings }
 {
-    let Ok(grammar) = grammar(rt.alloc()) else {
-        return Err(Stop::Memory);
-    };
-    let mut steps: Steps<L> = Steps::new(rt, blank);
-    run_line_program(program, &grammar, keys, screen, &mut steps)
+    run_over(rt, grammar, StoredRules::new(hooks), keys, screen)
+}
+
+// Runs the program over any rules that read a room.
+fn run_over<R: Rules + Drop, K: Source, S: Sink>(
+    rt: &HostRuntime,
+    grammar: &Grammar,
+    rules: R,
+    keys: &mut K,
+    screen: &mut S,
+) -> End
+    requires grammar { grammar.now ≡ lamp_graph }
+    requires rooms { R.meanings rules ≡ lamp_meanings }
+{
+    let mut program = Program::new(rules);
+    let result = run_over_streams(rt, &mut program, grammar, keys, screen);
+    let [hall, kitchen, stairs, study] = &program.lamps;
+    End {
+        result,
+        levels: [
+            hall.brightness,
+            kitchen.brightness,
+            stairs.brightness,
+            study.brightness,
+        ],
+    }
 }

@@ -164,7 +164,7 @@ fn explains_what_may_come(rt: HostRuntime) -> Result<(), Fail> {
 #[test]
 fn takes_no_key_after_quit(rt: HostRuntime) -> Result<(), Fail> {
     let mut outcome = outcome_of(&rt, b"Q\rLIST\r", None, 4096)?;
-    let is_done = outcome.result == Ok(()) && outcome.screen.bytes() == b"@Q\r\n".as_slice();
+    let is_done = outcome.end.result == Ok(()) && outcome.screen.bytes() == b"@Q\r\n".as_slice();
     assert!(rt; is_done && leaves(&mut outcome.keys, b"LIST\r"));
     Ok(())
 }

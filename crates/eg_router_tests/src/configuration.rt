@@ -12,9 +12,9 @@ fn the_configuration_is_what_was_typed(rt: HostRuntime) -> Result<(), Fail> {
             (b"en\rsh r\r", b"router>en\r\nrouter#sh r\r\nrouter#"),
             (
                 b"en\rconf t\rint b\radd 10.0.0.1\rex\rint a\rshut\rdesc \"the \"\"lab\"\"\"\rend\rsh run\r",
-                b"router>en\r\nrouter#conf t\r\nrouter(config)#int b\r\nrouter(config-if)#add 10.0.0.1\r\n\
-                    router(config-if)#ex\r\nrouter(config)#int a\r\nrouter(config-if)#shut\r\n\
-                    router(config-if)#desc \"the \"\"lab\"\"\"\r\nrouter(config-if)#end\r\nrouter#sh run\r\n\
+                b"router>en\r\nrouter#conf t\r\nrouter(config)#int b\r\nB#add 10.0.0.1\r\n\
+                    B#ex\r\nrouter(config)#int a\r\nA#shut\r\n\
+                    A#desc \"the \"\"lab\"\"\"\r\nA#end\r\nrouter#sh run\r\n\
                     interface A\r\n description \"the \"\"lab\"\"\"\r\n shutdown\r\nexit\r\n\
                     interface B\r\n address 10.0.0.1\r\nexit\r\nrouter#",
             ),

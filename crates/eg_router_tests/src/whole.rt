@@ -16,7 +16,7 @@ fn each_mode_has_its_prompt(rt: HostRuntime) -> Result<(), Fail> {
             ),
             (
                 b"en\rconf t\rinterface eth0\r",
-                b"router>en\r\nrouter#conf t\r\nrouter(config)#interface eth0\r\nrouter(config-if)#",
+                b"router>en\r\nrouter#conf t\r\nrouter(config)#interface eth0\r\nETH0#",
             ),
             (
                 b"en\rconf t\rrouter ospf\r",
@@ -33,7 +33,7 @@ fn exit_goes_one_mode_up_and_end_to_the_second(rt: HostRuntime) -> Result<(), Fa
         &[
             (
                 b"en\rconf t\rint e\rexit\rexit\rexit\r",
-                b"router>en\r\nrouter#conf t\r\nrouter(config)#int e\r\nrouter(config-if)#exit\r\n\
+                b"router>en\r\nrouter#conf t\r\nrouter(config)#int e\r\nE#exit\r\n\
                     router(config)#exit\r\nrouter#exit\r\nrouter>",
             ),
             (
@@ -43,7 +43,7 @@ fn exit_goes_one_mode_up_and_end_to_the_second(rt: HostRuntime) -> Result<(), Fa
             ),
             (
                 b"en\rconf t\rint e\rend\r",
-                b"router>en\r\nrouter#conf t\r\nrouter(config)#int e\r\nrouter(config-if)#end\r\nrouter#",
+                b"router>en\r\nrouter#conf t\r\nrouter(config)#int e\r\nE#end\r\nrouter#",
             ),
             // A command of another mode is none here.
             (
@@ -76,10 +76,10 @@ fn interfaces_are_shown_in_the_order_of_their_names(rt: HostRuntime) -> Result<(
             ),
             (
                 b"en\rconf t\rint b\rex\rint a-1\rshut\rdesc \"to the lab\"\radd 10.0.0.255\rend\rsh i\r",
-                b"router>en\r\nrouter#conf t\r\nrouter(config)#int b\r\nrouter(config-if)#ex\r\n\
-                    router(config)#int a-1\r\nrouter(config-if)#shut\r\n\
-                    router(config-if)#desc \"to the lab\"\r\nrouter(config-if)#add 10.0.0.255\r\n\
-                    router(config-if)#end\r\nrouter#sh i\r\n\
+                b"router>en\r\nrouter#conf t\r\nrouter(config)#int b\r\nB#ex\r\n\
+                    router(config)#int a-1\r\nA-1#shut\r\n\
+                    A-1#desc \"to the lab\"\r\nA-1#add 10.0.0.255\r\n\
+                    A-1#end\r\nrouter#sh i\r\n\
                     A-1 down 10.0.0.255 to the lab\r\nB up\r\nrouter#",
             ),
         ],
@@ -93,21 +93,21 @@ fn interfaces_come_and_go(rt: HostRuntime) -> Result<(), Fail> {
         &[
             (
                 b"en\rconf t\rint a\rex\rint b\rex\rno int A\rend\rsh i\r",
-                b"router>en\r\nrouter#conf t\r\nrouter(config)#int a\r\nrouter(config-if)#ex\r\n\
-                    router(config)#int b\r\nrouter(config-if)#ex\r\nrouter(config)#no int A\r\n\
+                b"router>en\r\nrouter#conf t\r\nrouter(config)#int a\r\nA#ex\r\n\
+                    router(config)#int b\r\nB#ex\r\nrouter(config)#no int A\r\n\
                     router(config)#end\r\nrouter#sh i\r\nB up\r\nrouter#",
             ),
             // One that is there is not made anew.
             (
                 b"en\rconf t\rint a\rshut\rex\rint A\rend\rsh i\r",
-                b"router>en\r\nrouter#conf t\r\nrouter(config)#int a\r\nrouter(config-if)#shut\r\n\
-                    router(config-if)#ex\r\nrouter(config)#int A\r\nrouter(config-if)#end\r\n\
+                b"router>en\r\nrouter#conf t\r\nrouter(config)#int a\r\nA#shut\r\n\
+                    A#ex\r\nrouter(config)#int A\r\nA#end\r\n\
                     router#sh i\r\nA down\r\nrouter#",
             ),
             // ESC completes those that are there, and no others.
             (
                 b"en\rconf t\rint eth0\rex\rint e\x1b",
-                b"router>en\r\nrouter#conf t\r\nrouter(config)#int eth0\r\nrouter(config-if)#ex\r\n\
+                b"router>en\r\nrouter#conf t\r\nrouter(config)#int eth0\r\nETH0#ex\r\n\
                     router(config)#int eTH0 ",
             ),
             (
@@ -117,8 +117,8 @@ fn interfaces_come_and_go(rt: HostRuntime) -> Result<(), Fail> {
             // Neither INTERFACE nor NO INTERFACE takes an abbreviation: one makes an interface, the other refuses it.
             (
                 b"en\rconf t\rint eth0\rex\rint eth\rex\rno int et\rend\rsh i\r",
-                b"router>en\r\nrouter#conf t\r\nrouter(config)#int eth0\r\nrouter(config-if)#ex\r\n\
-                    router(config)#int eth\r\nrouter(config-if)#ex\r\nrouter(config)#no int et\r\n\
+                b"router>en\r\nrouter#conf t\r\nrouter(config)#int eth0\r\nETH0#ex\r\n\
+                    router(config)#int eth\r\nETH#ex\r\nrouter(config)#no int et\r\n\
                     ?No such interface\r\nrouter(config)#end\r\nrouter#sh i\r\nETH up\r\nETH0 up\r\nrouter#",
             ),
             (
@@ -129,7 +129,7 @@ fn interfaces_come_and_go(rt: HostRuntime) -> Result<(), Fail> {
             // One that is gone is refused in the line.
             (
                 b"en\rconf t\rint a\rex\rno int a\rno int a\r",
-                b"router>en\r\nrouter#conf t\r\nrouter(config)#int a\r\nrouter(config-if)#ex\r\n\
+                b"router>en\r\nrouter#conf t\r\nrouter(config)#int a\r\nA#ex\r\n\
                     router(config)#no int a\r\nrouter(config)#no int a\r\n?No such interface\r\nrouter(config)#",
             ),
         ],
@@ -143,16 +143,16 @@ fn no_takes_a_setting_back(rt: HostRuntime) -> Result<(), Fail> {
         &[
             (
                 b"en\rconf t\rint a\rshut\radd 1.2.3.4\rdesc \"x\"\rno shut\rno add\rno desc\rend\rsh i\r",
-                b"router>en\r\nrouter#conf t\r\nrouter(config)#int a\r\nrouter(config-if)#shut\r\n\
-                    router(config-if)#add 1.2.3.4\r\nrouter(config-if)#desc \"x\"\r\n\
-                    router(config-if)#no shut\r\nrouter(config-if)#no add\r\nrouter(config-if)#no desc\r\n\
-                    router(config-if)#end\r\nrouter#sh i\r\nA up\r\nrouter#",
+                b"router>en\r\nrouter#conf t\r\nrouter(config)#int a\r\nA#shut\r\n\
+                    A#add 1.2.3.4\r\nA#desc \"x\"\r\n\
+                    A#no shut\r\nA#no add\r\nA#no desc\r\n\
+                    A#end\r\nrouter#sh i\r\nA up\r\nrouter#",
             ),
             (
                 b"en\rconf t\rint a\radd 1.2.3.256\radd 1.2.3\rend\rsh i\r",
-                b"router>en\r\nrouter#conf t\r\nrouter(config)#int a\r\nrouter(config-if)#add 1.2.3.256\r\n\
-                    ?Value not accepted\r\nrouter(config-if)#add 1.2.3\r\n?Token does not match\r\n\
-                    router(config-if)#end\r\nrouter#sh i\r\nA up\r\nrouter#",
+                b"router>en\r\nrouter#conf t\r\nrouter(config)#int a\r\nA#add 1.2.3.256\r\n\
+                    ?Value not accepted\r\nA#add 1.2.3\r\n?Token does not match\r\n\
+                    A#end\r\nrouter#sh i\r\nA up\r\nrouter#",
             ),
         ],
     )
@@ -171,7 +171,7 @@ fn explains_what_may_come(rt: HostRuntime) -> Result<(), Fail> {
             (
                 b"en\rconf t\rint a\raddress ?",
                 b"router>en\r\nrouter#conf t\r\nrouter(config)#int a\r\n\
-                    router(config-if)#address ? number from 0 to 255\r\nrouter(config-if)#address ",
+                    A#address ? number from 0 to 255\r\nA#address ",
             ),
             (
                 b"en\rconf t\rno int ?",

@@ -6,6 +6,8 @@ mod case;
 #[cfg(test)]
 mod controls;
 #[cfg(test)]
+mod creates;
+#[cfg(test)]
 mod ends;
 #[cfg(test)]
 mod faults;
@@ -13,6 +15,8 @@ mod faults;
 mod files;
 #[cfg(test)]
 mod given;
+#[cfg(test)]
+mod memory;
 #[cfg(test)]
 mod notation;
 #[cfg(test)]

@@ -451,6 +451,15 @@ fn subcommands_are_added(rt: HostRuntime) -> Result<(), Fail> {
 }
 
 #[test]
+fn a_comment_is_passed_inside_a_line(rt: HostRuntime) -> Result<(), Fail> {
+    let store = run(&rt, "1:WRITE FOO.TXT");
+    let cases = "DELETE !old! FOO.TXT|Delete <OPERATOR>FOO.TXT Missing wa
+        DELETE !old!|?
+        DELETE !old FOO.TXT|?";
+    try_lines::<Brand, _>(&rt, &rt, Blank::new(1), &store, cases.as_bytes())
+}
+
+#[test]
 fn a_line_means_deleted_files(rt: HostRuntime) -> Result<(), Fail> {
     let store = run(
         &rt,

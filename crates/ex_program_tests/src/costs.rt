@@ -11,6 +11,8 @@ ghost use Rattle.ex_program.specs.ExecRun.{exec_trace};
 
 // The counter takes no bytes, so that no run can show it. Whatever the files are:
 //
+// - Where the blank after a keyword goes, nothing is kept, since the keyword ended at it: 2 for the end of the line, 4
+//   for the keyword.
 // - A byte more of a file costs its own trial alone, 5 for two bytes that want more and for the comma that may stand
 //   in their place; keyword and guide word are kept.
 // - The same afresh: besides, 2 for the end of the line, 5 for the keyword and 2 for the guide word.
@@ -18,7 +20,8 @@ ghost use Rattle.ex_program.specs.ExecRun.{exec_trace};
 //   opens it again.
 fn lines_cost_their_trials()
     ensures { (state : State)
-        → (cost (setting_of exec_semantics (exec_start state)) COMMANDS (codes "DIR A") (codes "DIR AB") ≡ 5)
+        → (cost (setting_of exec_semantics (exec_start state)) COMMANDS (codes "DIR ") (codes "DIR") ≡ 6)
+        × (cost (setting_of exec_semantics (exec_start state)) COMMANDS (codes "DIR A") (codes "DIR AB") ≡ 5)
         × (cost (setting_of exec_semantics (exec_start state)) COMMANDS [] (codes "DIR AB") ≡ 14)
         × (trials_of (exec_trace false state [] (codes "DIR " ++ 127 ∷ [])) ≡ 29) }
 {}

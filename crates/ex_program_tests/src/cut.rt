@@ -9,6 +9,16 @@ screen @LO{EOL}?Read fault{EOL}
 log 4c 1 O{LF}4f 2 O{LF}
 left G
 
+# A fault of the host takes its place: its first call is the create of OUT.
+get 2
+call 0
+keys LOG
+status HostFault
+screen @LO{EOL}?Host fault{EOL}
+log 4c 1 O{LF}4f 2 O{LF}
+left G
+out none
+
 # The end of the line is a part of the message, and a message that fails leaves the status.
 get 2
 room 3

@@ -56,7 +56,15 @@ clock 0
 keys DELETE !old! A.TXT ; gone{CR}
 screen @DELETE !old! A.TXT ; gone{EOL} <OPERATOR>A.TXT.1 [OK]{EOL}@{EOL}
 log ..{LF}0d 25 D 0.1k6@0-6 13.0n0@13-13 14.0i@13-18{LF}
-out {HEAD}F OPERATOR A.TXT.1 D 1 0 - 0{LF}{LF}E{LF}";
+out {HEAD}F OPERATOR A.TXT.1 D 1 0 - 0{LF}{LF}E{LF}
+
+words -w,IN,OUT
+in {HEAD}F OPERATOR FOO.TXT.1 U 1 0 - 0{LF}{LF}E{LF}
+clock 0
+keys DELETE !old! FOO.TXT{CR}
+screen @DELETE !old! FOO.TXT{EOL} <OPERATOR>FOO.TXT.1 [OK]{EOL}@{EOL}
+log ..{LF}0d 20 D 0.1k6@0-6 13.0n0@13-13 14.0i@13-20{LF}
+out {HEAD}F OPERATOR FOO.TXT.1 D 1 0 - 0{LF}{LF}E{LF}";
 
 #[test]
 fn goes_on_from_an_image(rt: HostRuntime) -> Result<(), Fail> {

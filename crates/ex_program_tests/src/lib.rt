@@ -10,6 +10,8 @@ mod costs;
 #[cfg(test)]
 mod cut;
 #[cfg(test)]
+mod directly;
+#[cfg(test)]
 mod faults;
 #[cfg(test)]
 mod files;
@@ -24,9 +26,13 @@ mod joins;
 #[cfg(test)]
 mod keeping;
 #[cfg(test)]
+mod large;
+#[cfg(test)]
 mod limit;
 #[cfg(test)]
 mod notation;
+#[cfg(test)]
+mod order;
 #[cfg(test)]
 mod pairs;
 #[cfg(test)]

@@ -4,12 +4,16 @@ use crate::given::{Given, outcome_of, words_of};
 use crate::notation::push_said;
 use std::test::Fail;
 
-const TAKES_LINE_BY_LINE: &str = "# A file that takes itself is taken four times.
-words IN,OUT
+const TAKES_LINE_BY_LINE: &str =
+    "# A file that takes itself is taken four times. The lines that are taken are not logged.
+words -w,IN,OUT
 in {HEAD}F OPERATOR L.CMD.1 U 1 0 - 19{LF}INF VER{LF}TAKE L.CMD{LF}{LF}E{LF}
 clock 0
 keys TAKE L.CMD{CR}
 screen @TAKE L.CMD{EOL} EXEC20 1{EOL} EXEC20 1{EOL} EXEC20 1{EOL} EXEC20 1{EOL}?TAKE too deep{EOL}@{EOL}
+log 54 1 O{LF}41 2 O{LF}4b 3 O{LF}45 4 O{LF}20 5 O 0.1k14@0-4{LF}4c 6 O 0.1k14@0-4 21.0n0@5-5{LF}
+log 2e 7 O 0.1k14@0-4 21.0n0@5-5{LF}43 8 O 0.1k14@0-4 21.0n0@5-5{LF}4d 9 O 0.1k14@0-4 21.0n0@5-5{LF}
+log 44 10 O 0.1k14@0-4 21.0n0@5-5{LF}0d 10 D 0.1k14@0-4 21.0n0@5-5 22.0i@5-10{LF}
 out {HEAD}F OPERATOR L.CMD.1 U 1 0 - 19{LF}INF VER{LF}TAKE L.CMD{LF}{LF}E{LF}
 
 # After the end of a file the one around it goes on.

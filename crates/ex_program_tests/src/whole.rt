@@ -17,6 +17,10 @@ keys D{CR}{^H}
 screen @D{EOL}?Ambiguous keyword{EOL}@{EOL}
 log 44 1 O{LF}0d 1 F2.0@0{LF}08 0 O{LF}
 
+keys L{CR}{^H}
+screen @L{EOL}?Ambiguous keyword{EOL}@{EOL}
+log 4c 1 O{LF}0d 1 F2.0@0{LF}08 0 O{LF}
+
 keys INF X{CR}{^H}
 screen @INF X{EOL}?Unrecognized keyword{EOL}@INF {EOL}
 log ..{LF}0d 5 F1.27@4 0.1k9@0-3 26.0n0@4-4{LF}08 4 O 0.1k9@0-3{LF}

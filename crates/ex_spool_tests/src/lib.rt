@@ -12,4 +12,6 @@ mod notation;
 #[cfg(test)]
 mod pages;
 #[cfg(test)]
+mod plain;
+#[cfg(test)]
 mod queues;

@@ -3,6 +3,8 @@
 mod files;
 mod steps;
 
+use ex_generations::Bytes;
+use std::alloc::AllocError;
 use steps::{each_afresh, even, tells};
 
 // [retention]
@@ -131,6 +133,14 @@ fn retention_may_come_alone(rt: HostRuntime) {
         &rt,
         "1 2- 3 4; retain 0; retain 2; retain 1 -> 1 2- 3 4; 1- 2- 3 4; 1- 2- 3- 4",
     );
+}
+
+#[test]
+fn bytes_are_copied(rt: HostRuntime) -> Result<(), AllocError> {
+    let bytes = Bytes::new(Vec::from_slice(rt.alloc(), b"two\nlines")?);
+    let copy = bytes.copy(rt.alloc()).expect(&rt, "memory");
+    assert_eq!(rt; copy.as_slice(), b"two\nlines".as_slice());
+    Ok(())
 }
 
 #[test]

@@ -1,5 +1,6 @@
 // A store that is asked and changed by texts.
 
+pub(crate) mod flat;
 pub(crate) mod forms;
 pub(crate) mod listing;
 pub(crate) mod marks;

@@ -5,6 +5,7 @@ mod copies;
 mod definitions;
 mod directories;
 mod drafts;
+mod families;
 mod images;
 mod limits;
 mod marks;

@@ -4,6 +4,8 @@
 #[cfg(test)]
 mod case;
 #[cfg(test)]
+mod creates;
+#[cfg(test)]
 mod ends;
 #[cfg(test)]
 mod faults;

@@ -6,6 +6,8 @@ mod commands;
 #[cfg(test)]
 mod faults;
 #[cfg(test)]
+mod laws;
+#[cfg(test)]
 mod limit;
 #[cfg(test)]
 mod notation;

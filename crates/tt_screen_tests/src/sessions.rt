@@ -1,11 +1,9 @@
 // What stands on the screen after the keys of a session.
-ghost use Rattle.std.specs.Prelude.{◌≡◌, ◌<◌, [], ◌∷◌, length};
-ghost use Rattle.cm_text.specs.declared.text.TheConstants.{JOIN};
+ghost use Rattle.std.specs.Prelude.{◌≡◌, ◌<◌, length};
 ghost use Rattle.cm_blocks.specs.Fault.{grammar_fault};
 ghost use Rattle.cm_blocks.specs.Setting.{Setting, setting};
 ghost use Rattle.cm_hooks.specs.Meanings.{no_meanings};
 ghost use Rattle.cm_state.specs.SessionState.{IsReady};
-ghost use Rattle.cm_run.specs.Shows.{row_after};
 
 use crate::commands::grammar_of;
 use crate::notation::push_said;
@@ -13,7 +11,6 @@ use cm_blocks::{Grammar, Steps};
 use cm_files::{Names, OneDirectory};
 use cm_hooks::NoRules;
 use cm_io::{MemSink, MemSource, Put};
-use cm_run::Display;
 use cm_state::{Label, Prompt, Session, Turn};
 use cm_text::{NAME_LIMIT, Name};
 use std::alloc::Global;
@@ -248,37 +245,4 @@ LAMPS>|{74*A}-{CR}{79*B}CD|LAMPS>{74*A}{EOL}{79*B}C{EOL}";
 #[test]
 fn shows_the_rows_of_continued_lines(rt: HostRuntime) -> Result<(), Fail> {
     tries(&rt, &rt, CONTINUED)
-}
-
-// Of a line of three rows the last row of the screen holds the third, each TAB as a space, and nothing of the prompt.
-fn the_last_row_holds_the_third()
-    ensures { row_after (64 ∷ []) (65 ∷ JOIN ∷ 66 ∷ JOIN ∷ 9 ∷ 67 ∷ []) ≡ 32 ∷ 67 ∷ [] }
-{}
-
-// The plain screen, as one of the displays.
-struct PlainScreen;
-
-impl Display for PlainScreen {
-    ghost use Rattle.tt_screen.specs.Grid as grid;
-    ghost use Rattle.tt_screen.specs.Holds as held;
-    ghost use Rattle.tt_screen.proofs.HeldTexts.{screen_is_a_display};
-
-    ghost State = { grid.Grid };
-
-    ghost feed = { grid.feed };
-
-    ghost holds = { held.Holds };
-
-    ghost is_display = { screen_is_a_display };
-}
-
-#[test]
-fn the_laws_hold() {
-    cm_run::laws::the_prompts_are_printed();
-    cm_run::laws::a_prompt_begins_a_line::<PlainScreen>();
-    cm_run::laws::a_key_keeps_the_screen::<PlainScreen>();
-    cm_run::laws::a_reply_ends_its_line::<PlainScreen>();
-    cm_run::laws::a_line_without_a_join_is_one_row();
-    cm_run::laws::a_row_begins_after_a_join();
-    the_last_row_holds_the_third();
 }

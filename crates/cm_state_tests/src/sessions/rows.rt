@@ -92,6 +92,12 @@ D\r\x08|Edited|@D\r
 0d 1 F2.0@0
 08 0 O
 
+L\r\x08|Edited|@L\r
+?Ambiguous keyword\r
+@|4c 1 O
+0d 1 F2.0@0
+08 0 O
+
 INF X\r\x08|Edited|@INF X\r
 ?Unrecognized keyword\r
 @INF |0d 5 F1.27@4 0.1k9@0-3 26.0n0@4-4

@@ -3,7 +3,10 @@
 use super::forms::has;
 use super::places::place;
 use crate::cases::first_word;
-use ex_store::{MOMENT_LIMIT, RETENTION_LIMIT, Store};
+use cm_fields::Gen;
+use cm_text::Name;
+use ex_store::{FullName, Key, MOMENT_LIMIT, RETENTION_LIMIT, Store};
+use std::alloc::AllocError;
 use std::process::Abort;
 
 /// Marks the files of a place, or clears their marks.
@@ -62,4 +65,30 @@ pub(super) fn select(rt: &impl Abort, store: &Store, words: &str) -> Option<u32>
 pub(super) fn connect(rt: &impl Abort, store: &mut Store, directory: &str) {
     assert!(rt; has(store, directory), "there is no such directory");
     store.connect(directory);
+}
+
+/// Whether there is a file of a full name, and whether it is marked as deleted.
+pub(super) fn put_found(
+    rt: &impl Abort,
+    store: &Store,
+    files: &str,
+    told: &mut String,
+) -> Result<(), AllocError> {
+    let at = place(rt, files);
+    let full = FullName {
+        key: Key {
+            directory: at.directory,
+            name: at.name.unwrap_or(Name::new("")),
+            kind: at.kind.unwrap_or(Name::new("")),
+        },
+        generation: match at.generation {
+            Gen::Number(number) => number,
+            _ => 0,
+        },
+    };
+    told.push_str(match store.find(&full, &mut 0) {
+        Some(file) if file.deleted => "marked",
+        Some(_) => "there",
+        None => "none",
+    })
 }

@@ -1,7 +1,7 @@
 // What is done with a store, as a text: steps with `; ` between.
 
 use super::listing::{put_contents, put_names, put_selection, put_sizes, put_stamps};
-use super::marks::{connect, expunge, remark, select, set_keep, touch};
+use super::marks::{connect, expunge, put_found, remark, select, set_keep, touch};
 use super::names::{
     put_catalogue, put_file, put_logical, put_logicals, put_queue, put_requests, put_retention,
 };
@@ -47,7 +47,7 @@ fn put_list(
 
 // What a store tells: its catalogue, and what each directory keeps; a logical name, or all; a file, or the names, the
 // contents, the stamps or the sizes of all, or those that a place means; the print queue; what a directory keeps, and
-// its pages; its image; and the next file that a place means.
+// its pages; its image; whether there is a file; and the next file that a place means.
 fn put_answer(
     rt: &(impl Abort + AllocGlobal),
     store: &Store,
@@ -74,6 +74,7 @@ fn put_answer(
         "kept" => write!(told, "{}", store.retention_in(rest)),
         "pages" => write!(told, "{}", store.pages_in(rest)),
         "image" => put_image(rt, told, store),
+        "find" => put_found(rt, store, rest, told),
         _ => write!(told, "{:?}", select(rt, store, rest)),
     }
 }
@@ -105,8 +106,8 @@ fn put_step(
     }
 }
 
-// Does the steps, and tells what comes of each.
-fn told(
+/// Does the steps, and tells what comes of each.
+pub(super) fn told(
     rt: &(impl Abort + AllocGlobal),
     store: &mut Store,
     steps: &str,

@@ -1,4 +1,4 @@
-use Rattle.eg_lamps_tests.proofs.given.outcome_of.Given as goal
+use Rattle.mm_mail_tests.proofs.creates.creates.Given as goal
 
 -- the ledger that was just opened
 abbrev pub ghosts-run_program : goal.ghosts-run_program

@@ -1,4 +1,4 @@
-use Rattle.eg_lamps_tests.proofs.faults.session.Given as goal
+use Rattle.ex_program_tests.proofs.large.is_refused.Given as goal
 
 -- the ledger that was just opened
 abbrev pub ghosts-run_program : goal.ghosts-run_program
