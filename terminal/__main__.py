@@ -1,111 +1,95 @@
 """Runs a program at a terminal, so that no session is lost: python3 terminal [-o] SETTINGS PROGRAM WORD..
 
 `start` calls it, and has set the terminal at standard input to pass on every key at once; SETTINGS are those of before,
-as `stty -g` tells them. They come back however the run ends. Where this process is killed a second one, which waits for
-that alone, brings them back.
+as `stty -g` tells them. They come back however the run ends.
 
-With -o the program is one that writes a file at its end, the last of WORD... Before it is started it is told where the
-file cannot be written, and asked where it holds something.
+With -o the program is one that writes a file at its end, as saving/ has it. Before it is started it is told where the
+file cannot be written, and asked where it holds something; at its end another file is asked for where it must be.
 
-The exit status is the program's, or 128 and the number of the signal that ended it; 3 where the file cannot be written;
-and 125 where it is not to be written over, or where the program cannot be started.
+The exit status is the program's, or 128 and the number of the signal that ended it; 3 where the file is not written; and
+125 where it is not to be written over, or where the program cannot be started.
 """
 import os
 import signal
 import sys
-import termios
 
-from keys import ESC, Keys
-from out import ask, fault_of, holds_something, out_of
-from run import KEYBOARD, SIGNALS, Run
+sys.path.insert(1, os.path.join(os.path.dirname(os.path.dirname(os.path.abspath(__file__))), "saving"))
 
-CANNOT_WRITE, NOT_RUN = 3, 125
+from ask import NOT_RUN, Gone, refusal, save_at_terminal  # noqa: E402
+from keeper import Keeper, restore  # noqa: E402
+from keys import ESC, Keys  # noqa: E402
+from out import FAULT, out_of, say  # noqa: E402
+from run import SIGNALS, Run  # noqa: E402
+
 # How long what a person may have typed is held, in milliseconds: a person does not feel it.
 DELAY = "50"
 
 
-def restore(settings):
-    """Gives the terminal these settings, where it is still there."""
-    quiet = [(os.POSIX_SPAWN_OPEN, 2, os.devnull, os.O_WRONLY, 0)]
-    os.waitpid(os.posix_spawnp("stty", ["stty", settings], os.environ, file_actions=quiet), 0)
+def give_up(_number, _frame):
+    """Ends what is asked."""
+    ignore_signals()
+    raise Gone
 
 
-def guard(settings):
-    """Makes a process that brings the settings back where this one is killed and nobody else has set the terminal
-    since. Gives its number, and the pipe that ends it where it is closed."""
-    ours = termios.tcgetattr(KEYBOARD)
-    closed, pipe = os.pipe()
-    number = os.fork()
-    if number:
-        os.close(closed)
-        return number, pipe
-    os.close(pipe)
-    for number in (*SIGNALS, signal.SIGTTOU):
+def ignore_signals():
+    """Lets nothing but KILL end what is left to be done."""
+    for number in SIGNALS:
         signal.signal(number, signal.SIG_IGN)
-    for number in (1, 2):
-        os.dup2(os.open(os.devnull, os.O_RDWR), number)
-    os.read(closed, 1)
-    try:
-        if termios.tcgetattr(KEYBOARD) == ours:
-            restore(settings)
-    finally:
-        os._exit(0)
 
 
-def say(text):
-    """Tells this on standard error, where that can be written."""
-    try:
-        os.write(2, text.encode(errors="surrogateescape") + b"\n")
-    except OSError:
-        pass
-
-
-def refusal(name, out):
-    """Why the program is not to be run: a status and a text, or None; and what was typed meanwhile."""
-    fault = fault_of(out)
-    if fault:
-        return (CANNOT_WRITE, f"{name}: {out} cannot be written: {fault}"), b""
-    if not holds_something(out):
-        return None, b""
-    is_yes, typed = ask(f"{name}: {out} is there already. Write over it at the end (y or n)? ")
-    return (None if is_yes else (NOT_RUN, f"{name}: {out} stays as it is")), typed
-
-
-def run_program(words, typed):
+def run_program(words, typed, keeper):
     """Runs the program. Gives its exit status, and the signal that ended its keys, or None."""
     run = Run(words)
+    keeper.leave()
     keys = Keys(ESC if os.environ.get("EXEC20_TAB") == "complete" else b"\t")
     delay = os.environ.get("ESCDELAY", DELAY)
     return run.relay(keys, typed, int(delay if delay.isdecimal() else DELAY) / 1000), run.signal
 
 
+def run_and_save(words, out, keeper):
+    """Asks about OUT, runs the program, and saves what it wrote. Gives the exit status and lines that are to be told."""
+    for line in out.describe_left() if out else ():
+        say(line + "\r")
+    refused, typed = refusal(out) if out else (None, b"")
+    if refused:
+        return refused
+    words = [words[0], *out.words(keeper.word())] if out else words
+    status, ended_by = run_program(words, typed, keeper)
+    told = [f"{os.path.basename(words[0])}: the keys ended by {ended_by.name}"] if ended_by and os.isatty(2) else []
+    if not out:
+        return status, told
+    told += out.describe(status)
+    image = keeper.all_written()
+    if ended_by:
+        ignore_signals()
+        return out.finish(image, status, out.save), told
+    for number in SIGNALS:
+        signal.signal(number, give_up)
+    return out.finish(image, status, lambda image: save_at_terminal(out, image)), told
+
+
 def main(words):
-    """Asks about the file, runs the program, and brings the settings back."""
+    """Runs the program, and brings the settings back."""
     writes = words[0] == "-o"
     settings, *words = words[1:] if writes else words
-    name, out = os.path.basename(words[0]), out_of(words[1:]) if writes else None
+    name = os.path.basename(words[0])
     for number in SIGNALS:
         signal.signal(number, lambda number, _: sys.exit(128 + number))
-    guarding, pipe = guard(settings)
-    told = None
+    out = out_of(name, words[1:]) if writes else None
+    keeper, is_done, told = Keeper(settings, out and out.save_alone), False, []
     try:
-        refused, typed = refusal(name, out) if out else (None, b"")
-        if refused:
-            status, told = refused
-        else:
-            status, ended_by = run_program(words, typed)
-            if ended_by and os.isatty(2):
-                told = f"{name}: the keys ended by {ended_by.name}"
+        status, told = run_and_save(words, out, keeper)
+        is_done = True
     except OSError as error:
-        status, told = NOT_RUN, f"{name}: {error}"
+        status, told = NOT_RUN, [f"{name}: {error}"]
+    except Gone:
+        status = FAULT
     finally:
-        for number in SIGNALS:
-            signal.signal(number, signal.SIG_IGN)
+        ignore_signals()
         restore(settings)
-        os.close(pipe)
-        os.waitpid(guarding, 0)
-    if told:
-        say(told)
+        keeper.end(is_done)
+    for line in told:
+        say(line)
     return status
 
 
