@@ -3,7 +3,6 @@ import os
 import re
 import subprocess
 import tempfile
-import time
 
 # The number of the allocation that `rt try` is told to let fail: one that no run reaches, and that stands in the program
 # nowhere else than in its two tests, of a first allocation and of one that grows.
@@ -14,42 +13,12 @@ STAMP = re.compile(rb"^(F \S+ \S+ [DU] \d+) \d+ (\d+|-) ", re.MULTILINE)
 
 
 def compiled(crate, folder):
-    """The program of a crate as `rt try` compiles it, kept in this folder. It is there only while it runs, so that it is
-    looked for meanwhile."""
-    kept = os.path.join(folder, os.path.basename(crate))
-    if os.path.exists(kept):
-        return kept
-    with tempfile.TemporaryDirectory(dir=folder) as here:
-        words = ["rt", "try", "--fail-alloc", str(NUMBER)]
-        child = subprocess.Popen(words, cwd=crate, env={**os.environ, "TMPDIR": here}, stdin=subprocess.DEVNULL,
-                                 stdout=subprocess.DEVNULL, stderr=subprocess.PIPE)
-        seen = set()
-        while child.poll() is None:
-            look_for_program(here, seen)
-            time.sleep(0.01)
-        said = child.stderr.read().decode(errors="replace")
-        for number in sorted(seen):
-            found = os.path.join(here, f"{number}.kept")
-            with open(found, "rb") as file:
-                if is_whole(file.read()):
-                    os.replace(found, kept)
-                    return kept
-    raise SystemExit(f"rt try left no program of {crate} to be found: {said[-500:]}")
-
-
-def look_for_program(here, seen):
-    """Keeps each file of the name that `rt try` gives to a program, once."""
-    for folder, _, names in os.walk(here):
-        if "program" not in names:
-            continue
-        path = os.path.join(folder, "program")
-        try:
-            number = os.stat(path).st_ino
-            if number not in seen:
-                os.link(path, os.path.join(here, f"{number}.kept"))
-                seen.add(number)
-        except OSError:
-            continue
+    """The program of a crate as `rt try` compiles it, kept in this folder."""
+    name, start = os.path.basename(crate), os.path.join(os.path.dirname(os.path.dirname(crate)), "start")
+    kept = os.path.join(folder, name)
+    if not os.path.exists(kept):
+        subprocess.run([start, "--keep", kept, name, "--fail-alloc", str(NUMBER)], stdin=subprocess.DEVNULL, check=True)
+    return kept
 
 
 def is_whole(held):
