@@ -1,10 +1,12 @@
 // The calls that take memory, with enough of it: a control file is read, and its lines are run.
 ghost use Rattle.std.specs.Prelude.{◌≡◌, ◌<◌};
+ghost use Rattle.ex_batch.specs.Job.{job_semantics};
 
 use crate::notation::push_said;
-use cm_blocks::Steps;
-use cm_io::{MemClock, MemSink};
-use ex_batch::{ControlFile, Job, is_label_name, run_batch};
+use cm_blocks::{Grammar, Steps};
+use cm_io::{MemClock, MemSink, NoMemory};
+use cm_run::Stop;
+use ex_batch::{ControlFile, Ended, Job, is_label_name, run_batch};
 use ex_grammar::grammar;
 use ex_store::Store;
 use std::alloc::{AllocError, Global};
@@ -21,27 +23,64 @@ fn place_of(file: &ControlFile, name: &[u8]) -> Option<usize> {
     }
 }
 
+const FIRST: &[u8] = b"@INF VER";
+
+const LAST: &[u8] = b"@LOG";
+
+// Whether a file of four lines, of which the second is a label and the third is empty, has them.
+fn has_its_lines(alloc: Global) -> Result<bool, NoMemory> {
+    let file = ControlFile::read(alloc, b"@INF VER\r\nEnd::\n\n@LOG")?;
+    Ok(
+        file.line(0) == Some(FIRST)
+            && file.line(3) == Some(LAST)
+            && file.line(4).is_none()
+            && place_of(&file, b"eND") == Some(1),
+    )
+}
+
 #[test]
 fn a_control_file_has_its_lines_and_labels(rt: HostRuntime) -> Result<(), Fail> {
-    let file = ControlFile::read(rt.alloc(), b"@INF VER\r\nEnd::\n\nEND::\n@LOG")?;
-    let text = format!(in rt.alloc();
-        "{:?} {:?} {:?} {:?} {:?} {:?}",
-        file.line(0),
-        file.line(1),
-        file.line(2),
-        file.line(4),
-        file.line(5),
-        place_of(&file, b"eND")
-    )?;
-    let wanted = format!(in rt.alloc();
-        "{:?} {:?} {:?} {:?} None Some(1)",
-        Some(b"@INF VER".as_slice()),
-        Some(b"End::".as_slice()),
-        Some(b"".as_slice()),
-        Some(b"@LOG".as_slice())
-    )?;
-    assert_eq!(rt; text.as_str(), wanted.as_str());
+    assert!(rt; has_its_lines(rt.alloc())?);
     Ok(())
+}
+
+// The run over a control file.
+fn run_over<L: Ledger>(
+    rt: &HostRuntime,
+    blank: Blank,
+    file: &ControlFile,
+    grammar: &Grammar,
+    job: &mut Job,
+    screen: &mut MemSink,
+    clock: &mut MemClock,
+) -> Result<Ended, Stop>
+    requires grammar { grammar.now ≡ job_semantics.graph }
+    requires name { blank.name ≡ L.name }
+    requires parts { blank.parts ≡ L.parts }
+    requires some { 0 < L.parts }
+{
+    let mut steps: Steps<L> = Steps::new(rt, blank);
+    run_batch(file, job, grammar, screen, clock, &mut steps)
+}
+
+// How the run over these bytes ends, and its screen.
+fn outcome_of(rt: &HostRuntime, bytes: &[u8]) -> Result<(Result<Ended, Stop>, MemSink), NoMemory> {
+    let alloc = rt.alloc();
+    let file = ControlFile::read(alloc, bytes)?;
+    let grammar = grammar(alloc)?;
+    let mut job = Job::new(alloc, Store::new(alloc)?);
+    let mut screen = MemSink::new(alloc, 4096)?;
+    let mut clock = MemClock::new(alloc, &[1])?;
+    let ended = run_over::<Brand>(
+        rt,
+        Blank::new(1),
+        &file,
+        &grammar,
+        &mut job,
+        &mut screen,
+        &mut clock,
+    );
+    Ok((ended, screen))
 }
 
 // Each is the lines of a file, and after bars how the run over them ends, and what it shows.
@@ -57,37 +96,16 @@ fn said(alloc: Global, text: &str) -> Result<Vec<u8>, AllocError> {
     Ok(bytes)
 }
 
-fn try_run<L: Ledger>(rt: &HostRuntime, blank: Blank, case: &str) -> Result<(), Fail>
-    requires name { blank.name ≡ L.name }
-    requires parts { blank.parts ≡ L.parts }
-    requires some { 0 < L.parts }
-{
+fn try_case(rt: &HostRuntime, case: &str) -> Result<(), Fail> {
     let alloc = rt.alloc();
     let (lines, rest) = case.split_once('|').unwrap_or((case, ""));
     let (answer, wanted) = rest.split_once('|').unwrap_or((rest, ""));
-    let file = ControlFile::read(alloc, &said(alloc, lines)?)?;
-    let grammar = grammar(alloc)?;
-    let mut job = Job::new(alloc, Store::new(alloc)?);
-    let mut screen = MemSink::new(alloc, 4096)?;
-    let mut clock = MemClock::new(alloc, &[1])?;
-    let mut steps: Steps<L> = Steps::new(rt, blank);
-    let ended = run_batch(
-        &file,
-        &mut job,
-        &grammar,
-        &mut screen,
-        &mut clock,
-        &mut steps,
-    );
+    let (ended, screen) = outcome_of(rt, &said(alloc, lines)?)?;
     let is = format!(in alloc; "{ended:?}")?;
     if is.as_str() == answer && screen.bytes() == said(alloc, wanted)?.as_slice() {
         return Ok(());
     }
     Err(Fail::new(format_args!("{} for {case}", is.as_str())))
-}
-
-fn try_case(rt: &HostRuntime, case: &str) -> Result<(), Fail> {
-    try_run::<Brand>(rt, Blank::new(1), case)
 }
 
 #[test]
