@@ -186,7 +186,7 @@ pub fn run_line_program<P: LineProgram, K: Source, S: Sink, L: Ledger>(
 ) -> Result<(), Stop>
     // The grammar is that of the program.
     requires grammar { grammar.now ≡ P.means.graph }
-    // What stands is the trace of the run, or a cut of it.
+    // [key-limit] What stands is the trace of the run, or a cut of it.
     ensures stands { IsTrue K.tells → LineRun P.means
         (observation (S.contents screen.old) (Number 0) (K.left keys.old) (K.gets keys.old) [] steps.old program.old)
         (observation (S.contents screen.new) (Number 0) (K.left keys.new) (K.gets keys.new) [] steps.new program.new)

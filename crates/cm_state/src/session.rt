@@ -125,7 +125,7 @@ impl Session {
         steps: &mut Steps<L>,
     ) -> Turn
         requires ready { IsReady (setting grammar.now (N.catalogue names.now) (R.meanings rules.now)) self.old }
-        // [key-line] The line, what control-H brings back, and the parse after the key.
+        // [key-line] [key-parse] The line, what control-H brings back, and the parse after the key.
         ensures edited { self.new ≡ edited (setting grammar.now (N.catalogue names.now) (R.meanings rules.now))
             self.old key }
         // [key-parse] What is held is the parse of the whole text.

@@ -161,6 +161,7 @@ fn run_words<H: Host, S: Sink, C: Clock, L: Ledger>(
 /// the run was stopped, or the message of the status.
 ///
 /// `steps` counts the trials.
+#[tactic(auto, using(crate::proofs::Clocks::moments_hold))]
 pub fn batch20<H: Host, S: Sink, C: Clock, L: Ledger>(
     alloc: Global,
     words: &Words,

@@ -13,12 +13,14 @@ use Rattle.ex_system.proofs.Starts.{from_image, one_image}
 use Rattle.ex_run.specs.Course.{Past, StandsBy}
 use Rattle.ex_run.specs.Over.{closing, has_ended, shown_of}
 use Rattle.ex_run.specs.Scene.{Scene, Telling}
+use Rattle.ex_run.proofs.Words.{heads}
 use Rattle.ex_take.specs.ExecState.{ExecState}
 use Rattle.ex_take.specs.Interpreter.{mode_by}
 use Rattle.ex_take.specs.declared.pending.Pending.{Pending}
 use Rattle.ex_take.specs.declared.typing.Typing.{Typing}
 use Rattle.ex_program.specs.ExecRun.{exec_left, exec_over, exec_trace, run_shown}
 use Rattle.ex_program.specs.RunEnd.{Stands}
+use Rattle.ex_program.proofs.GeneratedRuns.{generated_counted, generated_most, stands_generated}
 
 -- the EXEC has ended the run where LOGOUT has acted
 ended_by : (ended : Bool) (typing : Option Typing) (pending : Option Pending) → is_ended (mode_by ended typing pending) ≡ ended
@@ -45,6 +47,10 @@ pub stands_asked : (known : Telling) (asked : Option Form) (lines : Option ℕ) 
     → Some form ≡ asked → StandsBy known exec_over form a b before now result → Stands known asked lines a b before now result
 stands_asked known asked lines form a b before now result is stands =
     subst (λ (it : Option Form). Stands known it lines a b before now result) is stands
+
+-- what `exec20` says of a run, clause by clause
+pub ruleset known_run =
+    (heads, ended_where, generated_counted, generated_most, no_usage, shown_where, stands_asked, stands_generated)
 
 -- what one run saved the next reads
 module _ (known : Telling) where

@@ -129,6 +129,7 @@ fn generate<S: Sink, L: Ledger>(
 ///
 /// `steps` counts the trials: a key costs those of its line after the fields that the unchanged front of the line
 /// decides.
+#[tactic(auto, using(crate::proofs::KnownRuns::known_run))]
 pub fn exec20<H: Host, K: Source, S: Sink, W: Sink, C: Clock, L: Ledger>(
     alloc: Global,
     words: &Words,
@@ -141,6 +142,7 @@ pub fn exec20<H: Host, K: Source, S: Sink, W: Sink, C: Clock, L: Ledger>(
 ) -> Status
     // When each status may come, by what failed outside ..
     ensures host_cause { HostCause (H.faults host.old) (H.faults host.new) result }
+    // [run-cause]
     ensures cause { StatusCause (counts (S.faults screen.old) (W.faults log.old) (K.faults keys.old))
         (counts (S.faults screen.new) (W.faults log.new) (K.faults keys.new)) result }
     // [usage] .. by the words ..

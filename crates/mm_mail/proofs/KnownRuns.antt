@@ -12,6 +12,7 @@ use Rattle.ex_system.specs.Form.{Form, Two, is_name, pair_of}
 use Rattle.ex_run.specs.Course.{StandsBy}
 use Rattle.ex_run.specs.Over.{closing, has_ended, shown_of}
 use Rattle.ex_run.specs.Scene.{Scene, Telling}
+use Rattle.ex_run.proofs.Words.{heads}
 use Rattle.mm_mail.specs.Form.{form_by, form_of}
 use Rattle.mm_mail.specs.MailRun.{Stands, mail_left, mail_trace, run_shown}
 use Rattle.mm_mail.specs.MailState.{MailState}
@@ -57,3 +58,6 @@ pub stands_asked : (known : Telling) (asked : Option Form) (form : Form) (a b : 
     → Some form ≡ asked → StandsBy known mail_over form a b before now result → Stands known asked a b before now result
 stands_asked known asked form a b before now result is stands =
     subst (λ (it : Option Form). Stands known it a b before now result) is stands
+
+-- what `mm20` says of a run, clause by clause
+pub ruleset known_run = (heads, ended_where, no_usage, shown_where, stands_asked, unlogged)

@@ -90,6 +90,7 @@ fn run_form<H: Host, K: Source, S: Sink, C: Clock, L: Ledger>(
 ///
 /// `steps` counts the trials: a key costs those of its line after the fields that the unchanged front of the line
 /// decides.
+#[tactic(auto, using(crate::proofs::KnownRuns::known_run))]
 pub fn mm20<H: Host, K: Source, S: Sink, C: Clock, L: Ledger>(
     alloc: Global,
     words: &Words,
