@@ -17,16 +17,21 @@ NOT_RUN = 125
 
 def run(words, keeper):
     """Runs the program, and hands on a signal. Gives its exit status."""
-    signal.pthread_sigmask(signal.SIG_BLOCK, SIGNALS)
+    awaited = [number for number in SIGNALS if signal.getsignal(number) is not signal.SIG_IGN]
+    signal.signal(signal.SIGCHLD, signal.SIG_DFL)
+    signal.pthread_sigmask(signal.SIG_BLOCK, [*awaited, signal.SIGCHLD])
     program = os.posix_spawn(words[0], words, os.environ, setsigmask=())
     keeper.leave()
-    for number in SIGNALS:
-        if signal.getsignal(number) is not signal.SIG_IGN:
-            signal.signal(number, lambda number, _: os.kill(program, number))
-    signal.pthread_sigmask(signal.SIG_UNBLOCK, SIGNALS)
-    status = os.waitstatus_to_exitcode(os.waitpid(program, 0)[1])
+    ended, status = 0, 0
+    while not ended:
+        number = signal.sigwait([*awaited, signal.SIGCHLD])
+        if number != signal.SIGCHLD:
+            os.kill(program, number)
+        ended, status = os.waitpid(program, os.WNOHANG)
     for number in SIGNALS:
         signal.signal(number, signal.SIG_IGN)
+    signal.pthread_sigmask(signal.SIG_UNBLOCK, [*awaited, signal.SIGCHLD])
+    status = os.waitstatus_to_exitcode(status)
     return status if status >= 0 else 128 - status
 
 
@@ -41,9 +46,10 @@ def main(program, *words):
     keeper, is_done = Keeper(None, out.save_alone), False
     try:
         status = run([program, *out.words(keeper.word())], keeper)
-        for line in out.describe(status):
+        image = keeper.all_written()
+        for line in out.describe(status, image):
             say(line)
-        status = out.finish(keeper.all_written(), status, out.save)
+        status = out.finish(image, status, out.save)
         is_done = True
     except OSError as error:
         say(f"{name}: {error}")

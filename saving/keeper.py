@@ -13,6 +13,8 @@ SIGNALS = (signal.SIGHUP, signal.SIGINT, signal.SIGQUIT, signal.SIGTERM)
 KEYBOARD = 0
 READ_LIMIT = 65_536
 DONE = b"."
+# How many bytes tell how long an image is that is given on.
+LENGTH_BYTES = 8
 
 
 def restore(settings):
@@ -67,11 +69,14 @@ class Keeper:
         self.program_end = None
 
     def all_written(self):
-        """What the program has written at its end, once it has ended."""
+        """What the program has written at its end, once it has ended, or None where the other process has ended before
+        it gave all of it on."""
         pieces = []
         while not pieces or pieces[-1]:
             pieces.append(os.read(self.written, READ_LIMIT))
-        return b"".join(pieces)
+        given = b"".join(pieces)
+        length, image = given[:LENGTH_BYTES], given[LENGTH_BYTES:]
+        return image if len(length) == LENGTH_BYTES and int.from_bytes(length, "big") == len(image) else None
 
     def end(self, is_done):
         """Tells it whether all is done, and waits for its end."""
@@ -108,8 +113,9 @@ def outlive(life, written, given, ours, settings, save):
 
 
 def give(pipe, image):
-    """Gives the other process all of it, where that is still there."""
+    """Gives the other process all of it, after its length, where that is still there."""
+    rest = len(image).to_bytes(LENGTH_BYTES, "big") + image
     with contextlib.suppress(BrokenPipeError):
-        while image:
-            image = image[os.write(pipe, image):]
+        while rest:
+            rest = rest[os.write(pipe, rest):]
     os.close(pipe)

@@ -4,6 +4,8 @@ import os
 from image import Changed, is_whole, keep, left_beside, save, stamp
 
 FAULT, NO_IMAGE, BY_SIGNAL = 3, 8, 128
+# At these an image was written, or was to be.
+ENDS = (0, FAULT, 4, 5, 6, 7, 10)
 
 
 def say(text):
@@ -53,19 +55,23 @@ class Out:
         return [f"{self.name}: {left} {ended} {'a' if is_image else 'no'} whole image"
                 for left, is_image in left_beside(self.path)]
 
-    def describe(self, status):
-        """What the program's status says of the file that it began with, in lines."""
-        if self.source is None or status not in (FAULT, NO_IMAGE):
-            return []
-        try:
-            with open(self.source, "rb") as file:
-                file.read(1)
-        except OSError as error:
-            return [f"{self.name}: {self.source} cannot be read: {error.strerror}"]
-        return [f"{self.name}: the process that keeps the image has ended, and the session is lost"]
+    def describe(self, status, image):
+        """What the program's status says of the file that it began with, and of its image, None where the process that
+        keeps that has ended; in lines."""
+        if self.source is not None and status in (FAULT, NO_IMAGE):
+            try:
+                with open(self.source, "rb") as file:
+                    file.read(1)
+            except OSError as error:
+                return [f"{self.name}: {self.source} cannot be read: {error.strerror}"]
+        if image is None and status in ENDS:
+            return [f"{self.name}: the process that keeps the image has ended, and the session is lost"]
+        return []
 
     def finish(self, image, status, save_image):
         """Puts what the program wrote in its place, where its status says that it is whole. Gives the exit status."""
+        if image is None and status in ENDS:
+            return FAULT
         if not image or status == FAULT or status > BY_SIGNAL:
             return status
         return status if save_image(image) else FAULT

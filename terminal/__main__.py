@@ -58,8 +58,8 @@ def run_and_save(words, out, keeper):
     told = [f"{os.path.basename(words[0])}: the keys ended by {ended_by.name}"] if ended_by and os.isatty(2) else []
     if not out:
         return status, told
-    told += out.describe(status)
     image = keeper.all_written()
+    told += out.describe(status, image)
     if ended_by:
         ignore_signals()
         return out.finish(image, status, out.save), told
