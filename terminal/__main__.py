@@ -16,8 +16,10 @@ import sys
 sys.path.insert(1, os.path.join(os.path.dirname(os.path.dirname(os.path.abspath(__file__))), "saving"))
 
 from ask import NOT_RUN, Gone, refusal, save_at_terminal  # noqa: E402
+from history import MOST_LINES, History  # noqa: E402
 from keeper import Keeper, restore  # noqa: E402
 from keys import ESC, Keys  # noqa: E402
+from lines import LineFile  # noqa: E402
 from out import FAULT, out_of, say  # noqa: E402
 from run import SIGNALS, Run  # noqa: E402
 
@@ -37,13 +39,15 @@ def ignore_signals():
         signal.signal(number, signal.SIG_IGN)
 
 
-def run_program(words, typed, keeper):
+def run_program(words, typed, keeper, file):
     """Runs the program. Gives its exit status, and the signal that ended its keys, or None."""
-    run = Run(words)
+    run = Run(words, History(file))
     keeper.leave()
     keys = Keys(ESC if os.environ.get("EXEC20_TAB") == "complete" else b"\t")
     delay = os.environ.get("ESCDELAY", DELAY)
-    return run.relay(keys, typed, int(delay if delay.isdecimal() else DELAY) / 1000), run.signal
+    status = run.relay(keys, typed, int(delay if delay.isdecimal() else DELAY) / 1000)
+    run.history.keep()
+    return status, run.signal
 
 
 def run_and_save(words, out, keeper):
@@ -53,9 +57,11 @@ def run_and_save(words, out, keeper):
     refused, typed = refusal(out) if out else (None, b"")
     if refused:
         return refused
-    words = [words[0], *out.words(keeper.word())] if out else words
-    status, ended_by = run_program(words, typed, keeper)
-    told = [f"{os.path.basename(words[0])}: the keys ended by {ended_by.name}"] if ended_by and os.isatty(2) else []
+    name, words = os.path.basename(words[0]), [words[0], *out.words(keeper.word())] if out else words
+    # a program that writes a file has texts that are typed in, too
+    file = None if out else LineFile(name, os.environ.get("LINE_HISTORY"), MOST_LINES)
+    status, ended_by = run_program(words, typed, keeper, file)
+    told = [f"{name}: the keys ended by {ended_by.name}"] if ended_by and os.isatty(2) else []
     if not out:
         return status, told
     image = keeper.all_written()

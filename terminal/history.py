@@ -1,4 +1,4 @@
-"""The lines of a session that the arrows up and down bring back.
+"""The lines of a session, and of those before it, that the arrows up and down bring back.
 
 A line is what stands behind its prompt in the rows that the program has shown, so that what ESC put in is of it. One
 whose rows are joined by hyphens at their ends has a blank for each, as the program takes it. To bring one back the keys
@@ -12,10 +12,12 @@ JOIN = b"-"
 
 
 class History:
-    """The lines that were confirmed, the last of them last, and the place among them that is shown."""
+    """The lines that were confirmed, the last of them last, and the place among them that is shown. With a file they
+    begin with its lines."""
 
-    def __init__(self):
-        self.lines = deque(maxlen=MOST_LINES)
+    def __init__(self, file=None):
+        self.file, self.added = file, []
+        self.lines = deque(file.read() if file else (), maxlen=MOST_LINES)
         self.prompt = b""
         self.is_edited = False
         self.confirmed = b""
@@ -28,11 +30,22 @@ class History:
         self.is_edited = row.text != b""
         if not self.is_edited and self.confirmed.endswith(JOIN):
             return
-        if self.confirmed and self.confirmed not in list(self.lines)[-1:]:
-            self.lines.append(self.confirmed)
+        self.add()
         self.confirmed, self.draft, self.place = b"", b"", len(self.lines)
         self.prompt = row.text
         row.above.clear()
+
+    def add(self):
+        """The line that was confirmed is one of them."""
+        if self.confirmed and self.confirmed not in list(self.lines)[-1:]:
+            self.lines.append(self.confirmed)
+            self.added.append(self.confirmed)
+
+    def keep(self):
+        """Adds the lines of this session to the file."""
+        self.add()
+        if self.file and self.added:
+            self.file.add(self.added)
 
     def line(self, row):
         """The line that stands behind the prompt, or nothing where none does."""

@@ -16,7 +16,6 @@ import signal
 import time
 from collections import deque
 
-from history import History
 from keys import DOWN, UP
 from screen import Screen, bytes_in
 
@@ -39,9 +38,9 @@ SINGLE = frozenset((*ENDS, *LISTS, *STEPS))
 
 
 class Run:
-    """A program that is started with these words, the pipe to it, and its screen."""
+    """A program that is started with these words, the pipe to it, its screen, and the lines that are brought back."""
 
-    def __init__(self, words):
+    def __init__(self, words, history):
         self.signal = None  # that ended the keys
         self.strokes = deque()  # that the program is to have, in their time
         self.waiting = b""  # keys that the pipe has not taken yet
@@ -49,7 +48,7 @@ class Run:
         self.ended = 0  # the rows that had been ended before it
         self.pause = SHORTEST
         self.look_at = self.release_at = 0.0
-        self.history = History()
+        self.history = history
         self.screen = Screen()
         self.woken, wake = os.pipe()
         os.set_blocking(wake, False)
