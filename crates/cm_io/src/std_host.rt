@@ -2,20 +2,22 @@
 ghost use Rattle.std.specs.Prelude.{◌≡◌, false, [], None};
 
 use crate::fault::raised;
+use crate::std_held::Held;
 use crate::std_load::load_file;
-use crate::std_write::write_whole;
 use crate::{Host, Loaded, Put};
 use std::alloc::Global;
 use std::fs::File;
 use std::io::Write;
 use std::marker::Model;
 
-/// The files of the system. Each write is done at once. Contracts see whether a file is open,
-/// how many loads and creates it was asked, and its faults.
+/// The files of the system. What is written to a file is held, and leaves in pieces of at most 4096 bytes, or as one
+/// where it is longer; `close` writes what is left. So what the system refuses fails at a later write, or at the close.
+/// Contracts see whether a file is open, how many loads and creates it was asked, and its faults.
 #[derive(Drop)]
 pub struct StdHost {
     rt: HostRuntime,
     file: Option<File>,
+    held: Held,
     loads: u64,
     creates: u64,
     faults: u64,
@@ -43,6 +45,7 @@ impl StdHost {
         StdHost {
             rt: *rt,
             file: None,
+            held: Held::new(),
             loads: 0,
             creates: 0,
             faults: 0,
@@ -76,6 +79,7 @@ impl Host for StdHost {
 
     fn create(&mut self, name: &str) -> Put {
         self.creates = raised(self.creates);
+        self.held.clear();
         match File::create(&self.rt, name) {
             Ok(file) => {
                 self.file = Some(file);
@@ -93,7 +97,7 @@ impl Host for StdHost {
         let is_written = match &self.file {
             Some(file) => {
                 let mut output: &File = file;
-                write_whole(&mut output, bytes)
+                self.held.add(bytes, &mut output)
             }
             None => false,
         };
@@ -108,7 +112,7 @@ impl Host for StdHost {
         let is_flushed = match &self.file {
             Some(file) => {
                 let mut output: &File = file;
-                output.flush().is_ok()
+                self.held.hand_on(&mut output) && output.flush().is_ok()
             }
             None => false,
         };

@@ -1,21 +1,27 @@
-// Standard output.
+// Standard output and standard error, as screens.
 ghost use Rattle.std.specs.Prelude.{◌≡◌};
 ghost use Rattle.cm_io.specs.Contents.{Nothing};
 
 use crate::fault::raised;
 use crate::std_write::write_whole;
 use crate::{Put, Sink};
-use std::io::Stdout;
+use std::io::{Stderr, Stdout, Write};
 use std::marker::Model;
 
-/// Standard output. Each put is written at once. Contracts see its faults.
+/// A stream of the system, as a screen. Each put is written at once. Contracts see its faults.
 #[derive(Drop)]
-pub struct StdSink {
-    output: Stdout,
+pub struct StreamSink<W> {
+    output: W,
     faults: u64,
 }
 
-impl Model for StdSink {
+/// Standard output.
+pub type StdSink = StreamSink<Stdout>;
+
+/// Standard error, for a program whose standard output has what it found.
+pub type StdErrorSink = StreamSink<Stderr>;
+
+impl<W> Model for StreamSink<W> {
     ghost use Rattle.std.specs.Prelude.{ℕ};
 
     ghost Value = { ℕ };
@@ -23,19 +29,31 @@ impl Model for StdSink {
     ghost view = { λ sink. sink.faults };
 }
 
-impl StdSink {
+impl StreamSink<Stdout> {
     /// The standard output of this process.
     pub fn new(rt: &HostRuntime) -> StdSink
         ensures { result ≡ 0 }
     {
-        StdSink {
+        StreamSink {
             output: rt.stdout(),
             faults: 0,
         }
     }
 }
 
-impl Sink for StdSink {
+impl StreamSink<Stderr> {
+    /// The standard error of this process.
+    pub fn new(rt: &HostRuntime) -> StdErrorSink
+        ensures { result ≡ 0 }
+    {
+        StreamSink {
+            output: rt.stderr(),
+            faults: 0,
+        }
+    }
+}
+
+impl<W: Write> Sink for StreamSink<W> {
     ghost contents = { λ _. Nothing };
 
     ghost faults = { λ sink. sink };

@@ -1,5 +1,5 @@
 // Standard input.
-ghost use Rattle.std.specs.Prelude.{◌≡◌, false, []};
+ghost use Rattle.std.specs.Prelude.{◌≡◌, ◌≤◌, false, []};
 
 use crate::fault::raised;
 use crate::std_read::read_some;
@@ -10,13 +10,14 @@ use std::marker::Model;
 // The most bytes of one read.
 const READ_LIMIT: usize = 4096;
 
-/// Standard input. It reads what has come, at most 4096 bytes at a time, and waits for no more.
+/// Standard input. It reads what has come, at most 4096 bytes at a time, or one, and waits for no more.
 /// A read that gives nothing is the end. Contracts see how many gets it
 /// was asked, and its faults.
 #[derive(Drop)]
 pub struct StdSource {
     input: Stdin,
     buffer: [u8; READ_LIMIT],
+    most: usize,
     next: usize,
     end: usize,
     gets: u64,
@@ -32,7 +33,8 @@ impl Model for StdSource {
 
     ghost view = { λ source. record { gets = source.gets; faults = source.faults } };
 
-    ghost invariant = { λ source. (source.next ≤ source.end) × (source.end ≤ READ_LIMIT) };
+    ghost invariant = { λ source. (source.next ≤ source.end) × (source.end ≤ READ_LIMIT)
+        × (source.most ≤ READ_LIMIT) };
 }
 
 impl StdSource {
@@ -40,9 +42,26 @@ impl StdSource {
     pub fn new(rt: &HostRuntime) -> StdSource
         ensures { result ≡ record { gets = 0; faults = 0 } }
     {
+        StdSource::with_reads_of(rt, READ_LIMIT)
+    }
+
+    /// The standard input of this process, of which each get takes one byte alone: what is left when the program ends
+    /// is there for another that reads on.
+    pub fn single(rt: &HostRuntime) -> StdSource
+        ensures { result ≡ record { gets = 0; faults = 0 } }
+    {
+        StdSource::with_reads_of(rt, 1)
+    }
+
+    // The standard input, of which one read takes so many bytes at most.
+    fn with_reads_of(rt: &HostRuntime, most: usize) -> StdSource
+        requires { most ≤ READ_LIMIT }
+        ensures { result ≡ record { gets = 0; faults = 0 } }
+    {
         StdSource {
             input: rt.stdin(),
             buffer: [0; READ_LIMIT],
+            most,
             next: 0,
             end: 0,
             gets: 0,
@@ -63,7 +82,8 @@ impl Source for StdSource {
     fn get(&mut self) -> Got {
         self.gets = raised(self.gets);
         if self.next == self.end {
-            let Some(count) = read_some(&mut self.input, &mut self.buffer) else {
+            let buffer = &mut self.buffer[..];
+            let Some(count) = read_some(&mut self.input, &mut buffer[..self.most]) else {
                 self.faults = raised(self.faults);
                 return Got::Failed;
             };
