@@ -119,6 +119,7 @@ impl<R: RuleSet> Hooks<R> {
     {
         self.hook(id).help()
     }
+
     /// The hooks, lent to what asks them.
     pub fn lend(&self) -> Lent<'_, R>
         ensures { result.hooks.now ≡ self.now }

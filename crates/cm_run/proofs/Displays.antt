@@ -269,13 +269,4 @@ pub run_keeps : {S : Type 0} (m : Semantics S) → IsLineKeeping m → {D : Type
     → IsDisplay feed Holds → (state : S) (moments keys : List ℕ) → MeetSound m (starting m state moments) keys
     → KeepsLine feed Holds m state moments keys
 run_keeps {S = S} m keeping feed Holds is_display state moments keys met =
-    run_keeps_while (λ (state : S). Unit {0}) m always feed Holds is_display state moments keys tt met
-  where
-    always : IsLineKeepingWhile (λ (state : S). Unit {0}) m
-    always = record {
-      kept = λ at key going kept. tt;
-      prompts = λ state kept. keeping.prompts state;
-      lines = keeping.lines;
-      file_lines = keeping.file_lines;
-      raw_keys = keeping.raw_keys;
-    }
+    run_keeps_while (λ (state : S). Unit {0}) m keeping feed Holds is_display state moments keys tt met

@@ -24,20 +24,9 @@ is_line (mode.Line node prompt takes_moment) = true
 is_line mode.Raw = false
 is_line mode.Ended = false
 
--- an application whose prompts are printed; what a line shows in all ends with a line feed, or is nothing, and so does
--- what a line of a command file shows; and a raw key after which a line begins shows, with what it does, bytes that
--- end with a line feed
-pub record IsLineKeeping {S : Type 0} (m : Semantics S) : Type 0 where
-  pub prompts : (state : S) → HasPrintedPrompt (m.mode_of state)
-  pub lines : (state : S) (session : SessionState) (moment : ℕ)
-      → EndsLine (replies (m.line_effects state session moment))
-  pub file_lines : (state : S) (session : SessionState) (moment : ℕ)
-      → EndsLine (replies (m.file_line_effects state session moment))
-  pub raw_keys : (state : S) (key : ℕ) → m.mode_of state ≡ mode.Raw
-      → is_line (m.mode_of (left_by state (m.raw_effects state key))) ≡ true
-      → IsEnded (m.raw_echo state key ++ replies (m.raw_effects state key))
-
--- the same of one whose prompts are printed while a fact of its state holds, as it does on after each key
+-- an application whose prompts are printed while a fact of its state holds, as it does on after each key; what a line
+-- shows in all ends with a line feed, or is nothing, and so does what a line of a command file shows; and a raw key
+-- after which a line begins shows, with what it does, bytes that end with a line feed
 pub record IsLineKeepingWhile {S : Type 0} (Kept : S → Type 0) (m : Semantics S) : Type 0 where
   pub kept : (at : RunState S) (key : ℕ) → is_ended (m.mode_of at.state) ≡ false → Kept at.state
       → Kept (step m at key).state
@@ -49,6 +38,10 @@ pub record IsLineKeepingWhile {S : Type 0} (Kept : S → Type 0) (m : Semantics 
   pub raw_keys : (state : S) (key : ℕ) → m.mode_of state ≡ mode.Raw
       → is_line (m.mode_of (left_by state (m.raw_effects state key))) ≡ true
       → IsEnded (m.raw_echo state key ++ replies (m.raw_effects state key))
+
+-- and one whose prompts are printed in every state
+abbrev pub IsLineKeeping : {S : Type 0} → Semantics S → Type 0
+IsLineKeeping {S = S} m = IsLineKeepingWhile (λ (state : S). Unit {0}) m
 
 -- where the next key is for a line, the display shows prompt and line
 abbrev pub ShowsIn : {D : Type 0} → (D → List ℕ → Type 0) → Mode → D → SessionState → Type 0

@@ -12,10 +12,10 @@ use Rattle.cm_run.specs.Semantics.{Effect, Semantics}
 use Rattle.cm_run.specs.declared.mode.Mode.{Mode}
 use Rattle.cm_run.specs.declared.mode.Mode.TheVariants as mode
 
--- the grammar; the rules and the catalogue of a state; the node and the prompt of the next line, none where the program
+-- the grammar, the rules and the catalogue of a state; the node and the prompt of the next line, none where the program
 -- has ended; and of a line that is confirmed the state that it leaves, and the lines that it shows
 pub record LineSemantics (S : Type 0) : Type 0 where
-  pub graph : Graph
+  pub graph_of : S → Graph
   pub rules_of : S → Meanings
   pub catalogue_of : S → Catalogue
   pub line_of : S → Option (ℕ × Prompt)
@@ -43,7 +43,7 @@ line_effect p state session = record {
 -- files
 abbrev pub lines_only : {S : Type 0} → LineSemantics S → Semantics S
 lines_only p = record {
-  graph = p.graph;
+  graph_of = p.graph_of;
   rules_of = p.rules_of;
   catalogue_of = p.catalogue_of;
   mode_of = λ state. line_mode (p.line_of state);

@@ -15,11 +15,11 @@ pub record Effect (S : Type 0) : Type 0 where
   pub state : S
   pub reply : List ℕ
 
--- the grammar; the rules, the catalogue and the mode of a state; the acts of a line that is confirmed, and the state
+-- the grammar, the rules, the catalogue and the mode of a state; the acts of a line that is confirmed, and the state
 -- after one that is refused and one that is given up; what a raw key shows, and its acts; the line that waits in a
 -- command file, and its acts
 pub record Semantics (S : Type 0) : Type 0 where
-  pub graph : Graph
+  pub graph_of : S → Graph
   pub rules_of : S → Meanings
   pub catalogue_of : S → Catalogue
   pub mode_of : S → Mode
@@ -45,7 +45,7 @@ pub record IsSparing {S : Type 0} (m : Semantics S) : Type 0 where
 
 -- what a line is parsed under in this state
 abbrev pub setting_of : {S : Type 0} → Semantics S → S → Setting
-setting_of m state = setting m.graph (m.catalogue_of state) (m.rules_of state)
+setting_of m state = setting (m.graph_of state) (m.catalogue_of state) (m.rules_of state)
 
 -- a line begins at a node of the grammar
 abbrev pub IsModeOf : Graph → Mode → Type 0

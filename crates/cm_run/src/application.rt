@@ -30,6 +30,10 @@ pub trait Application {
     /// What it means.
     ghost means: { Semantics Self };
 
+    /// The grammar that a line is parsed under now.
+    fn grammar(&self) -> &Grammar
+        ensures { result.now ≡ means.graph_of self.now };
+
     /// The directories and files that a line may name now.
     fn names(&self) -> &Self::Names
         ensures { Self.Names.catalogue result.now ≡ means.catalogue_of self.now };
@@ -41,18 +45,16 @@ pub trait Application {
     /// What the next key is for.
     fn mode(&self) -> Mode
         ensures mode { result ≡ means.mode_of self.now }
-        ensures node { IsModeOf means.graph result };
+        ensures node { IsModeOf (means.graph_of self.now) result };
 
     /// Does what a confirmed line commands, at this moment, and shows the replies. Where it is Ended or Raw by then,
     /// the application has become that before it puts its reply.
     fn obey_line<S: Sink>(
         &mut self,
         session: &Session,
-        grammar: &Grammar,
         moment: u64,
         screen: &mut S,
     ) -> Result<(), Stop>
-        requires grammar { grammar.now ≡ means.graph }
         requires line { IsLineAt (means.mode_of self.old) session.now.node }
         requires parse { IsParse (setting_of means self.old) session.now.node (text_of session.now)
             session.now.fields ending.Done }
@@ -93,11 +95,9 @@ pub trait Application {
     fn obey_file_line<S: Sink>(
         &mut self,
         session: &Session,
-        grammar: &Grammar,
         moment: u64,
         screen: &mut S,
     ) -> Result<(), Stop>
-        requires grammar { grammar.now ≡ means.graph }
         requires line { IsLineAt (means.mode_of self.old) session.now.node }
         requires parse { IsParse (setting_of means self.old) session.now.node (text_of session.now)
             session.now.fields session.now.ending }

@@ -12,7 +12,7 @@ ghost use Rattle.cm_run.specs.Trace.{is_ended, run_trace, starting};
 use crate::key::handle_key;
 use crate::line::open_line;
 use crate::{Application, Mode, Stop};
-use cm_blocks::{Grammar, Steps};
+use cm_blocks::Steps;
 use cm_files::Names;
 use cm_hooks::Rules;
 use cm_io::{Clock, Got, Sink, Source};
@@ -29,15 +29,12 @@ pub fn run<A: Application, K: Source, S: Sink, W: Sink, C: Clock, L: Ledger>(
     limit: u64,
     logging: bool,
     app: &mut A,
-    grammar: &Grammar,
     keys: &mut K,
     screen: &mut S,
     log: &mut W,
     clock: &mut C,
     steps: &mut Steps<L>,
 ) -> Result<(), Stop>
-    // The grammar is that of the application.
-    requires grammar { grammar.now ≡ A.means.graph }
     // [run-trace] [confirmation] What stands is the trace of the run, or a cut of it.
     ensures traces { IsTrue K.tells → IsTrue C.tells → Traces
         (observation (S.contents screen.old) (W.contents log.old) (K.left keys.old) (K.gets keys.old) (C.left clock.old)
@@ -69,7 +66,6 @@ pub fn run<A: Application, K: Source, S: Sink, W: Sink, C: Clock, L: Ledger>(
     ensures spares { IsSparing A.means → result ≢ Err Stop.Memory }
 {
     let mut session = Session::new();
-    grammar.has_no_fault();
     match open_line(app, &mut session, screen) {
         Ok(()) => {}
         Err(stop) => return Err(stop),
@@ -83,18 +79,8 @@ pub fn run<A: Application, K: Source, S: Sink, W: Sink, C: Clock, L: Ledger>(
             Got::End => return Ok(()),
             Got::Failed => return Err(Stop::Keys),
         };
-        meets_sound(app, grammar);
-        match handle_key(
-            logging,
-            key,
-            app,
-            &mut session,
-            grammar,
-            screen,
-            log,
-            clock,
-            steps,
-        ) {
+        meets_sound(app);
+        match handle_key(logging, key, app, &mut session, screen, log, clock, steps) {
             Ok(()) => {}
             Err(stop) => return Err(stop),
         }
@@ -118,12 +104,11 @@ fn has_ended<A: Application>(app: &A) -> bool
 }
 
 // Hands on to a proof that what a key meets is sound. It does nothing.
-fn meets_sound<A: Application>(app: &A, grammar: &Grammar)
-    requires grammar { grammar.now ≡ A.means.graph }
+fn meets_sound<A: Application>(app: &A)
     ensures { IsSound (setting_of A.means app.now) }
 {
-    grammar.has_no_fault();
-    grammar.has_tables();
+    app.grammar().has_no_fault();
+    app.grammar().has_tables();
     let _ = app.names().directories();
     app.rules().are_lawful();
 }

@@ -4,7 +4,6 @@ ghost use Rattle.cm_io.specs.Fault.{PutCause};
 ghost use Rattle.cm_io.specs.Contents.{Adds, Contents};
 ghost use Rattle.cm_io.specs.Writer.{Writes};
 ghost use Rattle.cm_line.specs.Keys.{class_at};
-ghost use Rattle.cm_blocks.specs.Fault.{grammar_fault};
 ghost use Rattle.cm_blocks.specs.KeptParse.{cost};
 ghost use Rattle.cm_blocks.specs.Parse.{IsParse};
 ghost use Rattle.cm_blocks.specs.declared.field.Ending.TheVariants as ending;
@@ -23,7 +22,7 @@ ghost use Rattle.cm_run.specs.Trace.{key_trace, keystroke_trace, line_keystroke,
 
 use crate::line::{confirm_line, open_line};
 use crate::{Application, Mode, Stop};
-use cm_blocks::{Grammar, Steps};
+use cm_blocks::Steps;
 use cm_io::{Clock, Put, Sink, Writer};
 use cm_state::{Session, Turn};
 use std::sync::ledger::Ledger;
@@ -35,14 +34,11 @@ pub(crate) fn handle_key<A: Application, S: Sink, W: Sink, C: Clock, L: Ledger>(
     key: u8,
     app: &mut A,
     session: &mut Session,
-    grammar: &Grammar,
     screen: &mut S,
     log: &mut W,
     clock: &mut C,
     steps: &mut Steps<L>,
 ) -> Result<(), Stop>
-    requires grammar { grammar.now ≡ A.means.graph }
-    requires faultless { grammar_fault A.means.graph ≡ None }
     requires ready { IsReadyIn A.means app.old session.old }
     ensures traces { IsTrue C.tells → (keys : List ℕ) → (gets : ℕ) → Traces
         (observation (S.contents screen.old) (W.contents log.old) keys gets (C.left clock.old) steps.old app.old)
@@ -60,9 +56,7 @@ pub(crate) fn handle_key<A: Application, S: Sink, W: Sink, C: Clock, L: Ledger>(
     ensures spares { IsSparing A.means → result ≢ Err Stop.Memory }
 {
     match app.mode() {
-        Mode::Line { .. } => handle_line_key(
-            logging, key, app, session, grammar, screen, log, clock, steps,
-        ),
+        Mode::Line { .. } => handle_line_key(logging, key, app, session, screen, log, clock, steps),
         Mode::Raw => handle_raw_key(logging, key, app, session, screen, log),
         Mode::Ended => handle_raw_key(logging, key, app, session, screen, log),
     }
@@ -75,14 +69,11 @@ fn handle_line_key<A: Application, S: Sink, W: Sink, C: Clock, L: Ledger>(
     key: u8,
     app: &mut A,
     session: &mut Session,
-    grammar: &Grammar,
     screen: &mut S,
     log: &mut W,
     clock: &mut C,
     steps: &mut Steps<L>,
 ) -> Result<(), Stop>
-    requires grammar { grammar.now ≡ A.means.graph }
-    requires faultless { grammar_fault A.means.graph ≡ None }
     requires at { IsAtLine A.means app.old session.old }
     ensures traces { IsTrue C.tells → (keys : List ℕ) → (gets : ℕ) → Traces
         (observation (S.contents screen.old) (W.contents log.old) keys gets (C.left clock.old) steps.old app.old)
@@ -101,14 +92,14 @@ fn handle_line_key<A: Application, S: Sink, W: Sink, C: Clock, L: Ledger>(
         (counts (S.faults screen.new) (W.faults log.new) keys) result }
     ensures spares { IsSparing A.means → result ≢ Err Stop.Memory }
 {
-    let turn = edit_line(key, app, session, grammar, screen, steps);
+    let turn = edit_line(key, app, session, screen, steps);
     if let Turn::Failed = turn {
         return Err(Stop::Screen);
     }
     if let Put::Failed = log_line(logging, key, session, log) {
         return Err(Stop::Log);
     }
-    finish_key(turn, app, session, grammar, screen, clock, steps)
+    finish_key(turn, app, session, screen, clock, steps)
 }
 
 // Edits a line by a key, and shows the echo.
@@ -117,12 +108,9 @@ fn edit_line<A: Application, S: Sink, L: Ledger>(
     key: u8,
     app: &A,
     session: &mut Session,
-    grammar: &Grammar,
     screen: &mut S,
     steps: &mut Steps<L>,
 ) -> Turn
-    requires grammar { grammar.now ≡ A.means.graph }
-    requires faultless { grammar_fault A.means.graph ≡ None }
     requires ready { IsReady (setting_of A.means app.now) session.old }
     ensures edited { session.new ≡ edited (setting_of A.means app.now) session.old key }
     ensures parse { IsParse (setting_of A.means app.now) session.new.node (text_of session.new) session.new.fields
@@ -137,7 +125,7 @@ fn edit_line<A: Application, S: Sink, L: Ledger>(
     ensures steps { steps.new ≡ steps.old
         + cost (setting_of A.means app.now) session.old.node (line_before session.old) (text_of session.new) }
 {
-    session.key(key, grammar, app.names(), app.rules(), screen, steps)
+    session.key(key, app.grammar(), app.names(), app.rules(), screen, steps)
 }
 
 // Logs a key of a line, where there is a log.
@@ -162,13 +150,10 @@ fn finish_key<A: Application, S: Sink, C: Clock, L: Ledger>(
     turn: Turn,
     app: &mut A,
     session: &mut Session,
-    grammar: &Grammar,
     screen: &mut S,
     clock: &mut C,
     steps: &mut Steps<L>,
 ) -> Result<(), Stop>
-    requires grammar { grammar.now ≡ A.means.graph }
-    requires faultless { grammar_fault A.means.graph ≡ None }
     requires at { IsAtLine A.means app.old session.old }
     requires parse { turn ≡ Turn.Confirmed → IsParse (setting_of A.means app.old) session.old.node
         (text_of session.old) session.old.fields ending.Done }
@@ -189,7 +174,7 @@ fn finish_key<A: Application, S: Sink, C: Clock, L: Ledger>(
     match turn {
         Turn::Edited => Ok(()),
         Turn::Failed => Ok(()),
-        Turn::Confirmed => act(app, session, grammar, screen, clock, steps),
+        Turn::Confirmed => act(app, session, screen, clock, steps),
         Turn::Refused(_) => {
             app.refuse();
             open_line(app, session, screen)
@@ -220,13 +205,10 @@ fn moment_of<A: Application, C: Clock>(app: &A, clock: &mut C) -> u64
 fn act<A: Application, S: Sink, C: Clock, L: Ledger>(
     app: &mut A,
     session: &mut Session,
-    grammar: &Grammar,
     screen: &mut S,
     clock: &mut C,
     steps: &mut Steps<L>,
 ) -> Result<(), Stop>
-    requires grammar { grammar.now ≡ A.means.graph }
-    requires faultless { grammar_fault A.means.graph ≡ None }
     requires line { IsLineAt (A.means.mode_of app.old) session.old.node }
     requires parse { IsParse (setting_of A.means app.old) session.old.node (text_of session.old) session.old.fields
         ending.Done }
@@ -246,7 +228,7 @@ fn act<A: Application, S: Sink, C: Clock, L: Ledger>(
     ensures spares { IsSparing A.means → result ≢ Err Stop.Memory }
 {
     let moment = moment_of(app, clock);
-    match confirm_line(app, session, grammar, moment, screen, steps) {
+    match confirm_line(app, session, moment, screen, steps) {
         Ok(()) => open_line(app, session, screen),
         Err(stop) => Err(stop),
     }
@@ -262,7 +244,6 @@ fn handle_raw_key<A: Application, S: Sink, W: Sink>(
     screen: &mut S,
     log: &mut W,
 ) -> Result<(), Stop>
-    requires faultless { grammar_fault A.means.graph ≡ None }
     ensures traces { (keys : List ℕ) → (gets : ℕ) → (moments : List ℕ) → (trials : ℕ) → Traces
         (observation (S.contents screen.old) (W.contents log.old) keys gets moments trials app.old)
         (observation (S.contents screen.new) (W.contents log.new) keys gets moments trials app.new)

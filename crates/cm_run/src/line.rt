@@ -2,7 +2,6 @@
 ghost use Rattle.std.specs.Prelude.{◌≡◌, ◌≢◌, Err, ◌≤◌, ◌<◌, ◌+◌, ℕ, List, [], length, None, is_some};
 ghost use Rattle.cm_text.specs.Text.{IsLine, finished};
 ghost use Rattle.cm_io.specs.Contents.{Contents};
-ghost use Rattle.cm_blocks.specs.Fault.{grammar_fault};
 ghost use Rattle.cm_blocks.specs.KeptParse.{cost};
 ghost use Rattle.cm_blocks.specs.Parse.{IsParse};
 ghost use Rattle.cm_blocks.specs.declared.field.Ending.TheVariants as ending;
@@ -15,7 +14,7 @@ ghost use Rattle.cm_run.specs.Ready.{IsReadyIn};
 ghost use Rattle.cm_run.specs.Trace.{line_trace, file_session, file_trace, file_line_trace, next_line, node_of, line_start, opening};
 
 use crate::{Application, FILE_LINES, Mode, Stop};
-use cm_blocks::{Grammar, Steps};
+use cm_blocks::Steps;
 use cm_io::{Put, Sink};
 use cm_state::Session;
 use std::sync::ledger::Ledger;
@@ -27,7 +26,6 @@ pub(crate) fn open_line<A: Application, S: Sink>(
     session: &mut Session,
     screen: &mut S,
 ) -> Result<(), Stop>
-    requires faultless { grammar_fault A.means.graph ≡ None }
     ensures session { session.new ≡ line_start (A.means.mode_of app.now) session.old }
     ensures ready { IsReadyIn A.means app.now session.new }
     ensures traces { (log : Contents) → (keys : List ℕ) → (gets : ℕ) → (moments : List ℕ) → (trials : ℕ) → Traces
@@ -41,6 +39,7 @@ pub(crate) fn open_line<A: Application, S: Sink>(
     let Mode::Line { node, prompt, .. } = app.mode() else {
         return Ok(());
     };
+    app.grammar().has_no_fault();
     match session.begin(node, prompt, screen) {
         Put::Done => Ok(()),
         Put::Failed => Err(Stop::Screen),
@@ -64,13 +63,10 @@ pub(crate) fn parse_line<A: Application, L: Ledger>(
     app: &A,
     node: u16,
     line: &[u8],
-    grammar: &Grammar,
     steps: &mut Steps<L>,
 ) -> Session
-    requires grammar { grammar.now ≡ A.means.graph }
-    requires faultless { grammar_fault A.means.graph ≡ None }
     requires node { node_of (A.means.mode_of app.now) ≡ node }
-    requires within { node < length A.means.graph.nodes }
+    requires within { node < length (A.means.graph_of app.now).nodes }
     requires line { IsLine line.now }
     ensures session { result ≡ file_session A.means app.now line.now }
     ensures node { result.node ≡ node }
@@ -78,7 +74,7 @@ pub(crate) fn parse_line<A: Application, L: Ledger>(
     ensures steps { steps.new ≡ steps.old + cost (setting_of A.means app.now) node [] (finished line.now) }
 {
     let mut session = Session::new();
-    session.whole(node, line, grammar, app.names(), app.rules(), steps);
+    session.whole(node, line, app.grammar(), app.names(), app.rules(), steps);
     session
 }
 
@@ -86,13 +82,10 @@ pub(crate) fn parse_line<A: Application, L: Ledger>(
 #[tactic(auto, using(crate::proofs::Joins::traces_none, crate::proofs::FileLines::line_traces, crate::proofs::Memory::acts_spare), unfolding(crate::specs::Cause::ObeyCause))]
 fn take_line<A: Application, S: Sink, L: Ledger>(
     app: &mut A,
-    grammar: &Grammar,
     moment: u64,
     screen: &mut S,
     steps: &mut Steps<L>,
 ) -> Result<(), Stop>
-    requires grammar { grammar.now ≡ A.means.graph }
-    requires faultless { grammar_fault A.means.graph ≡ None }
     ensures traces { (log : Contents) → (keys : List ℕ) → (gets : ℕ) → (moments : List ℕ) → Traces
         (observation (S.contents screen.old) log keys gets moments steps.old app.old)
         (observation (S.contents screen.new) log keys gets moments steps.new app.new)
@@ -107,21 +100,18 @@ fn take_line<A: Application, S: Sink, L: Ledger>(
     let Some(line) = app.file_line() else {
         return Ok(());
     };
-    let session = parse_line(app, node, line, grammar, steps);
-    app.obey_file_line(&session, grammar, moment, screen)
+    let session = parse_line(app, node, line, steps);
+    app.obey_file_line(&session, moment, screen)
 }
 
 // Takes the lines of command files that wait, one after the other.
 #[tactic(auto, using(crate::proofs::CommandLines::files_over, crate::proofs::CommandLines::files_full, crate::proofs::CommandLines::files_more, crate::proofs::CommandLines::files_cut, crate::proofs::Course::ahead_first, crate::proofs::Causes::obey_cause_on), unfolding(crate::specs::Cause::ObeyCause))]
 fn take_lines<A: Application, S: Sink, L: Ledger>(
     app: &mut A,
-    grammar: &Grammar,
     moment: u64,
     screen: &mut S,
     steps: &mut Steps<L>,
 ) -> Result<(), Stop>
-    requires grammar { grammar.now ≡ A.means.graph }
-    requires faultless { grammar_fault A.means.graph ≡ None }
     ensures traces { (log : Contents) → (keys : List ℕ) → (gets : ℕ) → (moments : List ℕ) → Traces
         (observation (S.contents screen.old) log keys gets moments steps.old app.old)
         (observation (S.contents screen.new) log keys gets moments steps.new app.new)
@@ -134,7 +124,7 @@ fn take_lines<A: Application, S: Sink, L: Ledger>(
         if !has_line(app) {
             return Ok(());
         }
-        match take_line(app, grammar, moment, screen, steps) {
+        match take_line(app, moment, screen, steps) {
             Ok(()) => {}
             Err(stop) => return Err(stop),
         }
@@ -146,12 +136,10 @@ fn take_lines<A: Application, S: Sink, L: Ledger>(
 /// is confirmed: each is parsed under the state that it finds, its trials are counted, and it does what it says.
 pub fn run_lines<A: Application, S: Sink, L: Ledger>(
     app: &mut A,
-    grammar: &Grammar,
     moment: u64,
     screen: &mut S,
     steps: &mut Steps<L>,
 ) -> Result<(), Stop>
-    requires grammar { grammar.now ≡ A.means.graph }
     ensures traces { (log : Contents) → (keys : List ℕ) → (gets : ℕ) → (moments : List ℕ) → Traces
         (observation (S.contents screen.old) log keys gets moments steps.old app.old)
         (observation (S.contents screen.new) log keys gets moments steps.new app.new)
@@ -160,8 +148,7 @@ pub fn run_lines<A: Application, S: Sink, L: Ledger>(
     ensures cause { ObeyCause (S.faults screen.old) (S.faults screen.new) result }
     ensures spares { IsSparing A.means → result ≢ Err Stop.Memory }
 {
-    grammar.has_no_fault();
-    take_lines(app, grammar, moment, screen, steps)
+    take_lines(app, moment, screen, steps)
 }
 
 /// Does what a confirmed line commands, and then takes the lines of the command files that it names.
@@ -169,13 +156,10 @@ pub fn run_lines<A: Application, S: Sink, L: Ledger>(
 pub(crate) fn confirm_line<A: Application, S: Sink, L: Ledger>(
     app: &mut A,
     session: &Session,
-    grammar: &Grammar,
     moment: u64,
     screen: &mut S,
     steps: &mut Steps<L>,
 ) -> Result<(), Stop>
-    requires grammar { grammar.now ≡ A.means.graph }
-    requires faultless { grammar_fault A.means.graph ≡ None }
     requires line { IsLineAt (A.means.mode_of app.old) session.now.node }
     requires parse { IsParse (setting_of A.means app.old) session.now.node (text_of session.now)
         session.now.fields ending.Done }
@@ -187,8 +171,8 @@ pub(crate) fn confirm_line<A: Application, S: Sink, L: Ledger>(
     ensures cause { ObeyCause (S.faults screen.old) (S.faults screen.new) result }
     ensures spares { IsSparing A.means → result ≢ Err Stop.Memory }
 {
-    match app.obey_line(session, grammar, moment, screen) {
-        Ok(()) => take_lines(app, grammar, moment, screen, steps),
+    match app.obey_line(session, moment, screen) {
+        Ok(()) => take_lines(app, moment, screen, steps),
         Err(stop) => Err(stop),
     }
 }

@@ -55,6 +55,10 @@ pub trait LineProgram {
     /// While it holds, the prompts are printed bytes.
     ghost prompts: { (state : Self) → keeps state → HasPrinted (means.line_of state) };
 
+    /// The grammar that a line is parsed under now.
+    fn grammar(&self) -> &Grammar
+        ensures { result.now ≡ means.graph_of self.now };
+
     /// The directories and files that a line may name now.
     fn names(&self) -> &Self::Names
         ensures { Self.Names.catalogue result.now ≡ means.catalogue_of self.now };
@@ -67,12 +71,11 @@ pub trait LineProgram {
     /// ended.
     fn line(&self) -> Option<(u16, Prompt)>
         ensures line { result ≡ means.line_of self.now }
-        ensures node { IfSome result (λ line. line.0 < length means.graph.nodes) };
+        ensures node { IfSome result (λ line. line.0 < length (means.graph_of self.now).nodes) };
 
     /// Does what a confirmed line commands, and writes the lines that it shows. The state is that of the line also
     /// where the screen fails.
-    fn obey<S: Sink>(&mut self, session: &Session, grammar: &Grammar, out: &mut Writer<'_, S>)
-        requires grammar { grammar.now ≡ means.graph }
+    fn obey<S: Sink>(&mut self, session: &Session, out: &mut Writer<'_, S>)
         requires line { IsLineAt (line_mode (means.line_of self.old)) session.now.node }
         requires parse { IsParse (setting_of (lines_only means) self.old) session.now.node (text_of session.now)
             session.now.fields ending.Done }
@@ -81,13 +84,7 @@ pub trait LineProgram {
 }
 
 // Does what a confirmed line commands, and puts what it shows.
-fn obey_on<P: LineProgram, S: Sink>(
-    program: &mut P,
-    session: &Session,
-    grammar: &Grammar,
-    screen: &mut S,
-) -> Put
-    requires grammar { grammar.now ≡ P.means.graph }
+fn obey_on<P: LineProgram, S: Sink>(program: &mut P, session: &Session, screen: &mut S) -> Put
     requires line { IsLineAt (line_mode (P.means.line_of program.old)) session.now.node }
     requires parse { IsParse (setting_of (lines_only P.means) program.old) session.now.node (text_of session.now)
         session.now.fields ending.Done }
@@ -98,8 +95,8 @@ fn obey_on<P: LineProgram, S: Sink>(
     ensures cause { PutCause (S.faults screen.old) (S.faults screen.new) result }
 {
     let mut out = Writer::new(screen);
-    program.obey(session, grammar, &mut out);
-    out.outcome()
+    program.obey(session, &mut out);
+    out.finish()
 }
 
 impl<P: LineProgram> Application for P {
@@ -110,6 +107,10 @@ impl<P: LineProgram> Application for P {
     type Names = P::Names;
 
     ghost means = { lines_only P.means };
+
+    fn grammar(&self) -> &Grammar {
+        LineProgram::grammar(self)
+    }
 
     fn names(&self) -> &P::Names {
         LineProgram::names(self)
@@ -134,11 +135,10 @@ impl<P: LineProgram> Application for P {
     fn obey_line<S: Sink>(
         &mut self,
         session: &Session,
-        grammar: &Grammar,
         _moment: u64,
         screen: &mut S,
     ) -> Result<(), Stop> {
-        match obey_on(self, session, grammar, screen) {
+        match obey_on(self, session, screen) {
             Put::Done => Ok(()),
             Put::Failed => Err(Stop::Screen),
         }
@@ -166,7 +166,6 @@ impl<P: LineProgram> Application for P {
     fn obey_file_line<S: Sink>(
         &mut self,
         _session: &Session,
-        _grammar: &Grammar,
         _moment: u64,
         _screen: &mut S,
     ) -> Result<(), Stop> {
@@ -179,13 +178,10 @@ impl<P: LineProgram> Application for P {
 #[tactic(auto, using(crate::proofs::LinePrograms::line_cause))]
 pub fn run_line_program<P: LineProgram, K: Source, S: Sink, L: Ledger>(
     program: &mut P,
-    grammar: &Grammar,
     keys: &mut K,
     screen: &mut S,
     steps: &mut Steps<L>,
 ) -> Result<(), Stop>
-    // The grammar is that of the program.
-    requires grammar { grammar.now ≡ P.means.graph }
     // [key-limit] What stands is the trace of the run, or a cut of it.
     ensures stands { IsTrue K.tells → LineRun P.means
         (observation (S.contents screen.old) (Number 0) (K.left keys.old) (K.gets keys.old) [] steps.old program.old)
@@ -198,7 +194,7 @@ pub fn run_line_program<P: LineProgram, K: Source, S: Sink, L: Ledger>(
     let mut log = CountSink::new();
     let mut clock = NoClock;
     run(
-        LINE_KEYS, false, program, grammar, keys, screen, &mut log, &mut clock, steps,
+        LINE_KEYS, false, program, keys, screen, &mut log, &mut clock, steps,
     )
 }
 

@@ -2,7 +2,6 @@
 ghost use Rattle.std.specs.Prelude.{◌≡◌, ◌≢◌, ◌≤◌, ℕ, List, Err, None, Some};
 ghost use Rattle.cm_text.specs.Text.{IsLine};
 ghost use Rattle.cm_io.specs.Contents.{Contents};
-ghost use Rattle.cm_blocks.specs.Fault.{grammar_fault};
 ghost use Rattle.cm_run.specs.Cause.{ObeyCause};
 ghost use Rattle.cm_run.specs.Cut.{Traces};
 ghost use Rattle.cm_run.specs.SingleLine.{handed_trace};
@@ -12,7 +11,7 @@ ghost use Rattle.cm_run.specs.Trace.{file_line_trace, line_by};
 
 use crate::line::parse_line;
 use crate::{Application, Mode, Stop, run_lines};
-use cm_blocks::{Grammar, Steps};
+use cm_blocks::Steps;
 use cm_io::Sink;
 use std::sync::ledger::Ledger;
 
@@ -22,13 +21,10 @@ use std::sync::ledger::Ledger;
 fn take_handed<A: Application, S: Sink, L: Ledger>(
     app: &mut A,
     line: &[u8],
-    grammar: &Grammar,
     moment: u64,
     screen: &mut S,
     steps: &mut Steps<L>,
 ) -> Result<(), Stop>
-    requires grammar { grammar.now ≡ A.means.graph }
-    requires faultless { grammar_fault A.means.graph ≡ None }
     requires line { IsLine line.now }
     ensures traces { (log : Contents) → (keys : List ℕ) → (gets : ℕ) → (moments : List ℕ) → Traces
         (observation (S.contents screen.old) log keys gets moments steps.old app.old)
@@ -41,8 +37,8 @@ fn take_handed<A: Application, S: Sink, L: Ledger>(
     let Mode::Line { node, .. } = app.mode() else {
         return Ok(());
     };
-    let session = parse_line(app, node, line, grammar, steps);
-    app.obey_file_line(&session, grammar, moment, screen)
+    let session = parse_line(app, node, line, steps);
+    app.obey_file_line(&session, moment, screen)
 }
 
 /// Takes a line that is handed in, if the next key is for one, as a run takes one of a command file: it is parsed under
@@ -52,12 +48,10 @@ fn take_handed<A: Application, S: Sink, L: Ledger>(
 pub fn run_line<A: Application, S: Sink, L: Ledger>(
     app: &mut A,
     line: &[u8],
-    grammar: &Grammar,
     moment: u64,
     screen: &mut S,
     steps: &mut Steps<L>,
 ) -> Result<(), Stop>
-    requires grammar { grammar.now ≡ A.means.graph }
     requires line { IsLine line.now }
     ensures traces { (log : Contents) → (keys : List ℕ) → (gets : ℕ) → (moments : List ℕ) → Traces
         (observation (S.contents screen.old) log keys gets moments steps.old app.old)
@@ -67,9 +61,8 @@ pub fn run_line<A: Application, S: Sink, L: Ledger>(
     ensures cause { ObeyCause (S.faults screen.old) (S.faults screen.new) result }
     ensures spares { IsSparing A.means → result ≢ Err Stop.Memory }
 {
-    grammar.has_no_fault();
-    match take_handed(app, line, grammar, moment, screen, steps) {
-        Ok(()) => run_lines(app, grammar, moment, screen, steps),
+    match take_handed(app, line, moment, screen, steps) {
+        Ok(()) => run_lines(app, moment, screen, steps),
         Err(stop) => Err(stop),
     }
 }

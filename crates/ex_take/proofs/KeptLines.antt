@@ -229,7 +229,8 @@ raw_keys_end at key is line =
 
 pub exec_keeps_lines : IsLineKeeping exec_semantics
 exec_keeps_lines = record {
-  prompts = λ at. prompt_printed at.interpreter.ended at.interpreter.typing at.interpreter.pending;
+  kept = λ at key going kept. tt;
+  prompts = λ at kept. prompt_printed at.interpreter.ended at.interpreter.typing at.interpreter.pending;
   lines = λ at session moment. lines_end at session moment;
   file_lines = λ at session moment. endings_end (passed at) session moment session.ending;
   raw_keys = λ at key is line. raw_keys_end at key is line;

@@ -126,7 +126,8 @@ raw_ends mail key false (Some message) is line =
 
 pub mail_keeps_lines : IsLineKeeping mail_semantics
 mail_keeps_lines = record {
-  prompts = λ mail. prompt_printed mail.ended mail.writing;
+  kept = λ at key going kept. tt;
+  prompts = λ mail kept. prompt_printed mail.ended mail.writing;
   lines = λ mail session moment.
       ends_effect (effect_of mail moment _) (act_ends _ mail.state);
   file_lines = λ mail session moment. inl refl;
