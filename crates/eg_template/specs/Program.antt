@@ -13,7 +13,7 @@ use Rattle.eg_template.specs.declared.grammar.TheConstants.{COMMANDS}
 use Rattle.eg_template.specs.declared.program.Program.{Program}
 
 abbrev pub program_start : Program
-program_start = record { names = no_files; sum = 0; has_quit = false }
+program_start = record { grammar = tt; names = no_files; sum = 0; has_quit = false }
 
 abbrev pub is_quit : Command → Bool
 is_quit commands.Quit = true
@@ -22,7 +22,7 @@ is_quit command = false
 -- a confirmed line changes the sum and shows its reply, and QUIT ends the run
 abbrev pub program_semantics : LineSemantics Program
 program_semantics = record {
-  graph = graph;
+  graph_of = λ at. graph;
   rules_of = λ at. no_meanings;
   catalogue_of = λ at. at.names;
   line_of = λ at. if at.has_quit then None else Some (COMMANDS, Main);

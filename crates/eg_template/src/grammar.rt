@@ -1,9 +1,10 @@
 // The grammar.
 ghost use Rattle.std.specs.Prelude.{◌≡◌, IfOk};
-ghost use Rattle.eg_template.specs.Graph.{command_entries, graph, graph_nodes};
+ghost use Rattle.eg_template.specs.Graph.{command_entries, graph_nodes};
 
 use cm_blocks::{Block, Function, Grammar, Node, Role};
 use cm_io::NoMemory;
+use cm_run::Known;
 use cm_tables::{Entry, Table};
 use std::alloc::Global;
 
@@ -18,12 +19,18 @@ pub(crate) const COMMANDS: u16 = 0;
 const LINE_END: u16 = 1;
 
 /// The grammar: `ADD (NUMBER) number`, `QUIT`, and an empty line.
-#[tactic(auto, using(crate::proofs::Faultless::graph_has_no_fault), unfolding(crate::specs::Graph::graph))]
-pub fn grammar(alloc: Global) -> Result<Grammar, NoMemory>
-    ensures { IfOk result (λ grammar. grammar ≡ graph) }
-{
-    let tables = vec![in alloc; commands(alloc)?]?;
-    Ok(Grammar::of(nodes(alloc)?, tables))
+pub struct SumGrammar;
+
+impl Known for SumGrammar {
+    ghost use Rattle.eg_template.specs.Graph.{graph};
+
+    ghost graph = { graph };
+
+    #[tactic(auto, using(crate::proofs::Faultless::graph_has_no_fault), unfolding(crate::specs::Graph::graph))]
+    fn make(alloc: Global) -> Result<Grammar, NoMemory> {
+        let tables = vec![in alloc; commands(alloc)?]?;
+        Ok(Grammar::of(nodes(alloc)?, tables))
+    }
 }
 
 // The commands, each with the node after it.

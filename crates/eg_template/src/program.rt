@@ -1,19 +1,22 @@
 // The program, which acts by lines alone.
-ghost use Rattle.std.specs.Prelude.{◌≡◌};
+ghost use Rattle.std.specs.Prelude.{◌≡◌, IfOk};
 ghost use Rattle.eg_template.specs.Program.{program_start};
 
-use crate::grammar::COMMANDS;
+use crate::grammar::{COMMANDS, SumGrammar};
 use crate::{Command, command_of, obey, put_reply};
 use cm_blocks::Grammar;
 use cm_files::OneDirectory;
 use cm_hooks::NoRules;
-use cm_io::{Sink, Writer};
-use cm_run::LineProgram;
+use cm_io::{NoMemory, Sink, Writer};
+use cm_run::{LineProgram, Own};
 use cm_state::{Prompt, Session};
+use std::alloc::Global;
 
 /// The program in its course.
 #[derive(Drop)]
 pub struct Program {
+    /// The grammar that its lines are parsed under.
+    pub grammar: Own<SumGrammar>,
     /// The names that a line may mean, for grammars that read files. This one reads none.
     pub names: OneDirectory,
     /// The sum.
@@ -23,15 +26,16 @@ pub struct Program {
 }
 
 impl Program {
-    /// The program at its start: nothing is added.
-    pub fn new() -> Program
-        ensures { result ≡ program_start }
+    /// The program at its start: nothing is added. There is an error where there is no memory for the grammar.
+    pub fn new(alloc: Global) -> Result<Program, NoMemory>
+        ensures { IfOk result (λ program. program ≡ program_start) }
     {
-        Program {
+        Ok(Program {
+            grammar: Own::new(alloc)?,
             names: OneDirectory::nothing(),
             sum: 0,
             has_quit: false,
-        }
+        })
     }
 }
 
@@ -52,6 +56,10 @@ impl LineProgram for Program {
 
     ghost prompts = { λ at kept. main_until at.has_quit COMMANDS };
 
+    fn grammar(&self) -> &Grammar {
+        self.grammar.lend()
+    }
+
     fn names(&self) -> &OneDirectory {
         &self.names
     }
@@ -69,7 +77,7 @@ impl LineProgram for Program {
         }
     }
 
-    fn obey<S: Sink>(&mut self, session: &Session, _grammar: &Grammar, out: &mut Writer<'_, S>) {
+    fn obey<S: Sink>(&mut self, session: &Session, out: &mut Writer<'_, S>) {
         let command = command_of(session);
         put_reply(command, self.sum, out);
         self.has_quit = matches!(command, Command::Quit);
