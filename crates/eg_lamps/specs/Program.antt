@@ -27,7 +27,7 @@ is_quit command = false
 -- a confirmed line changes the lamps and shows its reply, and QUIT ends the run
 abbrev pub lamp_semantics : LineSemantics State
 lamp_semantics = record {
-  graph = lamp_graph;
+  graph_of = λ at. lamp_graph;
   rules_of = λ at. lamp_meanings;
   catalogue_of = λ at. no_files;
   line_of = λ at. if at.has_quit then None else Some (COMMANDS, Main);

@@ -1,9 +1,10 @@
 // The grammar of the lamps.
 ghost use Rattle.std.specs.Prelude.{◌≡◌, IfOk};
-ghost use Rattle.eg_lamps.specs.Graph.{blocks, lamp_graph, lamp_nodes};
+ghost use Rattle.eg_lamps.specs.Graph.{blocks, lamp_nodes};
 
 use cm_blocks::{Block, Function, Grammar, Node, Role, push_nodes};
 use cm_io::NoMemory;
+use cm_run::Known;
 use cm_tables::{Entry, Table};
 use std::alloc::Global;
 
@@ -25,20 +26,26 @@ const LINE_END: u16 = 2;
 
 /// The grammar of the lamps: `SET (LAMP IN) room (TO) number`, `DIM (LAMP IN) room /BY:number`,
 /// `NAME (LAMP IN) room "note"`, `LIST`, `QUIT`, and an empty line.
-#[tactic(auto, using(crate::proofs::Faultless::graph_has_no_fault), unfolding(crate::specs::Graph::lamp_graph, crate::specs::Graph::command_entries, crate::specs::Graph::switch_entries, cm_tables::specs::Order::table_fault))]
-pub fn grammar(alloc: Global) -> Result<Grammar, NoMemory>
-    ensures { IfOk result (λ grammar. grammar ≡ lamp_graph) }
-{
-    let commands = Table::of(vec![in alloc;
-        Entry::new("DIM", DIM, 7),
-        Entry::new("LIST", LIST, LINE_END),
-        Entry::new("NAME", NAME, 9),
-        Entry::new("QUIT", QUIT, LINE_END),
-        Entry::new("SET", SET, 3),
-    ]?);
-    let switches = Table::of(vec![in alloc; Entry::with_value("BY", 0, 6)]?);
-    let tables = vec![in alloc; commands, switches]?;
-    Ok(Grammar::of(nodes(alloc)?, tables))
+pub struct LampGrammar;
+
+impl Known for LampGrammar {
+    ghost use Rattle.eg_lamps.specs.Graph.{lamp_graph};
+
+    ghost graph = { lamp_graph };
+
+    #[tactic(auto, using(crate::proofs::Faultless::graph_has_no_fault), unfolding(crate::specs::Graph::lamp_graph, crate::specs::Graph::command_entries, crate::specs::Graph::switch_entries, cm_tables::specs::Order::table_fault))]
+    fn make(alloc: Global) -> Result<Grammar, NoMemory> {
+        let commands = Table::of(vec![in alloc;
+            Entry::new("DIM", DIM, 7),
+            Entry::new("LIST", LIST, LINE_END),
+            Entry::new("NAME", NAME, 9),
+            Entry::new("QUIT", QUIT, LINE_END),
+            Entry::new("SET", SET, 3),
+        ]?);
+        let switches = Table::of(vec![in alloc; Entry::with_value("BY", 0, 6)]?);
+        let tables = vec![in alloc; commands, switches]?;
+        Ok(Grammar::of(nodes(alloc)?, tables))
+    }
 }
 
 // At node 0 a line begins, with nothing or a command; at node 1, after the room of DIM, it ends, or a switch follows.

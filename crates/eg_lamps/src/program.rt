@@ -4,19 +4,21 @@ ghost use Rattle.cm_files.specs.OneDirectory.{no_files};
 ghost use Rattle.eg_lamps.specs.Lamps.{lamp_meanings};
 ghost use Rattle.eg_lamps.specs.Program.{State, lamp_start};
 
-use crate::grammar::COMMANDS;
+use crate::grammar::{COMMANDS, LampGrammar};
 use crate::{Command, Lamp, command_of, dark_lamps, obey, put_reply};
 use cm_blocks::Grammar;
 use cm_files::OneDirectory;
 use cm_hooks::Rules;
 use cm_io::{Sink, Writer};
-use cm_run::LineProgram;
+use cm_run::{LineProgram, Own};
 use cm_state::{Prompt, Session};
 use std::marker::Model;
 
 /// The program in its course, over any rules by which hook 0 reads a room. What it means names none of them.
 #[derive(Drop)]
 pub struct Program<R: Rules> {
+    // The grammar that its lines are parsed under.
+    grammar: Own<LampGrammar>,
     // What is said of a room.
     rules: R,
     // The names that a line may mean, for grammars that read files. This one reads none.
@@ -36,12 +38,13 @@ impl<R: Rules> Model for Program<R> {
 }
 
 impl<R: Rules> Program<R> {
-    /// The program at its start, over these rules: all lamps are dark.
-    pub fn new(rules: R) -> Program<R>
+    /// The program at its start, with its grammar and over these rules: all lamps are dark.
+    pub fn new(grammar: Own<LampGrammar>, rules: R) -> Program<R>
         requires { R.meanings rules ≡ lamp_meanings }
         ensures { result ≡ lamp_start }
     {
         Program {
+            grammar,
             rules,
             names: OneDirectory::nothing(),
             lamps: dark_lamps(),
@@ -67,6 +70,10 @@ impl<R: Rules> LineProgram for Program<R> {
 
     ghost prompts = { λ at kept. main_until at.has_quit COMMANDS };
 
+    fn grammar(&self) -> &Grammar {
+        self.grammar.lend()
+    }
+
     fn names(&self) -> &OneDirectory {
         &self.names
     }
@@ -84,8 +91,8 @@ impl<R: Rules> LineProgram for Program<R> {
         }
     }
 
-    fn obey<S: Sink>(&mut self, session: &Session, grammar: &Grammar, out: &mut Writer<'_, S>) {
-        let command = command_of(session, grammar);
+    fn obey<S: Sink>(&mut self, session: &Session, out: &mut Writer<'_, S>) {
+        let command = command_of(session, self.grammar.lend());
         put_reply(&command, &self.lamps, out);
         self.has_quit = matches!(command, Command::Quit);
         obey(command, &mut self.lamps);

@@ -4,14 +4,12 @@
 ghost use Rattle.std.specs.Prelude.{◌≡◌, ◌≤◌, length};
 ghost use Rattle.cm_text.specs.declared.text.TheConstants.{LINE_LIMIT};
 ghost use Rattle.cm_hooks.specs.Meanings.{held_meanings};
-ghost use Rattle.eg_lamps.specs.Graph.{lamp_graph};
 ghost use Rattle.eg_lamps.specs.Lamps.{lamp_meanings};
 
-use cm_blocks::Grammar;
 use cm_hooks::{Answer, Callbacks, Hook, Hooks, Rules, StoredRules, Tail};
 use cm_io::{Sink, Source, Status, StdSink, StdSource, put_line};
-use cm_run::{Stop, run_over_streams, status_of};
-use eg_lamps::grammar::grammar;
+use cm_run::{Own, Stop, run_over_streams, status_of};
+use eg_lamps::grammar::LampGrammar;
 use eg_lamps::{Program, RoomRules};
 use std::process::ExitCode;
 
@@ -29,7 +27,7 @@ fn main(rt: HostRuntime) -> ExitCode {
     { RoomRules.completion(0, atom) };
     let help = || Rules::help(&RoomRules, 0);
     let (Ok(grammar), Ok(verdict), Ok(completion), Ok(help)) = (
-        grammar(alloc),
+        Own::new(alloc),
         Box::new(alloc, verdict),
         Box::new(alloc, completion),
         Box::new(alloc, help),
@@ -39,7 +37,7 @@ fn main(rt: HostRuntime) -> ExitCode {
     };
     let mut hooks: Hooks<RoomRules> = Hooks::new();
     let outcome = match hooks.push(Hook::new(0, verdict, completion, help)) {
-        Ok(()) => run_stored(&rt, &grammar, hooks.lend(), &mut keys, &mut screen),
+        Ok(()) => run_stored(&rt, grammar, hooks.lend(), &mut keys, &mut screen),
         Err(_) => unreachable!(),
     };
     ExitCode::from(status_of(outcome))
@@ -48,12 +46,11 @@ fn main(rt: HostRuntime) -> ExitCode {
 // Runs the program over the rules that stored functions answer.
 fn run_stored<H: Callbacks, K: Source, S: Sink>(
     rt: &HostRuntime,
-    grammar: &Grammar,
+    grammar: Own<LampGrammar>,
     hooks: H,
     keys: &mut K,
     screen: &mut S,
 ) -> Result<(), Stop>
-    requires grammar { grammar.now ≡ lamp_graph }
     requires ties { H.ties hooks }
     requires rooms { held_meanings (H.count hooks) H.meant ≡ lamp_meanings }
 {
@@ -63,14 +60,13 @@ fn run_stored<H: Callbacks, K: Source, S: Sink>(
 // Runs the program over any rules that read a room.
 fn run_over<R: Rules + Drop, K: Source, S: Sink>(
     rt: &HostRuntime,
-    grammar: &Grammar,
+    grammar: Own<LampGrammar>,
     rules: R,
     keys: &mut K,
     screen: &mut S,
 ) -> Result<(), Stop>
-    requires grammar { grammar.now ≡ lamp_graph }
     requires rooms { R.meanings rules ≡ lamp_meanings }
 {
-    let mut program = Program::new(rules);
-    run_over_streams(rt, &mut program, grammar, keys, screen)
+    let mut program = Program::new(grammar, rules);
+    run_over_streams(rt, &mut program, keys, screen)
 }
