@@ -64,7 +64,7 @@ put_last (it ∷ front) new = ap (λ (others : List Interface). it ∷ others) (
 
 -- the mode of the interface after these
 abbrev inside : List Interface → Interface → Router
-inside front it = record { names = no_files; interfaces = front ++ it ∷ []; mode = modes.Interface (length front) }
+inside front it = record { grammar = tt; names = no_files; interfaces = front ++ it ∷ []; mode = modes.Interface (length front) }
 
 -- a new one is entered after those that are below it
 enters : (name : List ℕ) (front : List Interface) → all_below name front ≡ true → is_interface_name name ≡ true

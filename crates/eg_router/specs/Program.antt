@@ -33,7 +33,7 @@ line_in modes.Ended interfaces = None
 -- its interfaces are the rules; a line that is confirmed does what it commands, and shows its reply
 abbrev pub router_semantics : LineSemantics Router
 router_semantics = record {
-  graph = router_graph;
+  graph_of = λ at. router_graph;
   rules_of = λ at. router_rules at.interfaces;
   catalogue_of = λ at. at.names;
   line_of = λ at. line_in at.mode at.interfaces;

@@ -12,11 +12,16 @@ use Rattle.eg_router.specs.declared.router.Router.{Router}
 
 -- without interfaces
 abbrev pub router_start : Router
-router_start = record { names = no_files; interfaces = []; mode = modes.User }
+router_start = record { grammar = tt; names = no_files; interfaces = []; mode = modes.User }
 
 -- where these interfaces are configured
 abbrev pub configuring : List Interface → Router
-configuring interfaces = record { names = no_files; interfaces = interfaces; mode = modes.Configuration }
+configuring interfaces = record {
+  grammar = tt;
+  names = no_files;
+  interfaces = interfaces;
+  mode = modes.Configuration;
+}
 
 -- one mode up
 abbrev pub above : Mode → Mode

@@ -1,11 +1,12 @@
 // The grammar of the router.
 ghost use Rattle.std.specs.Prelude.{◌≡◌, IfOk};
-ghost use Rattle.eg_router.specs.Graph.{blocks, keyword, lines, octet, point, router_graph, router_nodes};
+ghost use Rattle.eg_router.specs.Graph.{blocks, keyword, lines, octet, point, router_nodes};
 
 use crate::rules::{NAME, NEW_NAME, OCTET};
 use crate::tables::tables;
 use cm_blocks::{Block, Function, Grammar, Node, Role, push_nodes};
 use cm_io::NoMemory;
+use cm_run::Known;
 use cm_text::Name;
 use std::alloc::Global;
 
@@ -50,12 +51,18 @@ pub(crate) const PROTOCOL_LINES: u16 = 4;
 pub(crate) const LINE_END: u16 = 5;
 
 /// The grammar of the router: for each mode the node where its lines begin.
-#[tactic(auto, using(crate::proofs::Faultless::graph_has_no_fault), unfolding(crate::specs::Graph::router_graph))]
-pub fn grammar(alloc: Global) -> Result<Grammar, NoMemory>
-    ensures { IfOk result (λ grammar. grammar ≡ router_graph) }
-{
-    let tables = tables(alloc)?;
-    Ok(Grammar::of(nodes(alloc)?, tables))
+pub struct RouterGrammar;
+
+impl Known for RouterGrammar {
+    ghost use Rattle.eg_router.specs.Graph.{router_graph};
+
+    ghost graph = { router_graph };
+
+    #[tactic(auto, using(crate::proofs::Faultless::graph_has_no_fault), unfolding(crate::specs::Graph::router_graph))]
+    fn make(alloc: Global) -> Result<Grammar, NoMemory> {
+        let tables = tables(alloc)?;
+        Ok(Grammar::of(nodes(alloc)?, tables))
+    }
 }
 
 // Nodes 0 to 4, where a line of each mode begins with nothing or a command, and those of one block.

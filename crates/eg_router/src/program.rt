@@ -35,6 +35,10 @@ impl LineProgram for Router {
 
     ghost prompts = { λ at named. line_printed at.mode at.interfaces named };
 
+    fn grammar(&self) -> &Grammar {
+        self.grammar.lend()
+    }
+
     fn names(&self) -> &OneDirectory {
         &self.names
     }
@@ -57,8 +61,8 @@ impl LineProgram for Router {
         }
     }
 
-    fn obey<S: Sink>(&mut self, session: &Session, grammar: &Grammar, out: &mut Writer<'_, S>) {
-        let command = command_of(session, grammar);
+    fn obey<S: Sink>(&mut self, session: &Session, out: &mut Writer<'_, S>) {
+        let command = command_of(session, self.grammar.lend());
         put_reply(&command, &self.interfaces, out);
         self.obey_command(command);
     }

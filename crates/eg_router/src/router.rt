@@ -1,10 +1,14 @@
 // The router in its course, and what a command makes of it.
-ghost use Rattle.std.specs.Prelude.{◌≡◌};
+ghost use Rattle.std.specs.Prelude.{◌≡◌, IfOk};
 ghost use Rattle.eg_router.specs.Router.{above, entered, obeyed, router_start, with_setting};
 
+use crate::grammar::RouterGrammar;
 use crate::{Change, Command, Interfaces};
 use cm_files::OneDirectory;
+use cm_io::NoMemory;
+use cm_run::Own;
 use cm_text::Name;
+use std::alloc::Global;
 
 /// Where the router is: what its next line may be.
 #[derive(Clone, Copy, Debug, PartialEq, Eq)]
@@ -26,6 +30,8 @@ pub enum Mode {
 /// The router in its course.
 #[derive(Drop)]
 pub struct Router {
+    /// The grammar that its lines are parsed under.
+    pub grammar: Own<RouterGrammar>,
     /// The directories that a line may name, for grammars that read files. This one reads none.
     pub names: OneDirectory,
     /// Its interfaces. They are also the rules of its lines.
@@ -35,15 +41,17 @@ pub struct Router {
 }
 
 impl Router {
-    /// The router at its start: it has no interfaces, and is in its first mode.
-    pub fn new() -> Router
-        ensures { result ≡ router_start }
+    /// The router at its start: it has no interfaces, and is in its first mode. There is an error where there is no
+    /// memory for the grammar.
+    pub fn new(alloc: Global) -> Result<Router, NoMemory>
+        ensures { IfOk result (λ router. router ≡ router_start) }
     {
-        Router {
+        Ok(Router {
+            grammar: Own::new(alloc)?,
             names: OneDirectory::nothing(),
             interfaces: Interfaces::new(),
             mode: Mode::User,
-        }
+        })
     }
 
     /// Does what a command says.

@@ -4,17 +4,15 @@
 use cm_io::{StdSink, StdSource};
 use cm_run::{Stop, run_over_streams, status_of};
 use eg_router::Router;
-use eg_router::grammar::grammar;
 use std::process::ExitCode;
 
 /// Runs the router over the standard streams, and ends with its status.
 fn main(rt: HostRuntime) -> ExitCode {
-    let Ok(grammar) = grammar(rt.alloc()) else {
+    let Ok(mut router) = Router::new(rt.alloc()) else {
         return ExitCode::from(status_of(Err(Stop::Memory)));
     };
-    let mut router = Router::new();
     let mut keys = StdSource::new(&rt);
     let mut screen = StdSink::new(&rt);
-    let outcome = run_over_streams(&rt, &mut router, &grammar, &mut keys, &mut screen);
+    let outcome = run_over_streams(&rt, &mut router, &mut keys, &mut screen);
     ExitCode::from(status_of(outcome))
 }
