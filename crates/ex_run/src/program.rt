@@ -12,7 +12,7 @@ ghost use Rattle.ex_run.specs.Runs.{Runs};
 ghost use Rattle.ex_run.specs.Scene.{scene, telling};
 
 use crate::closing::close;
-use cm_blocks::{Grammar, Steps};
+use cm_blocks::Steps;
 use cm_io::{Clock, Host, NoMemory, Sink, Source, Status};
 use cm_run::{Application, Mode, Stop, run};
 use ex_store::Store;
@@ -37,13 +37,9 @@ pub trait Program<A: Application> {
     /// The state of its store.
     ghost store_of: { A → State };
 
-    /// Its grammar.
-    fn grammar(alloc: Global) -> Result<Grammar, NoMemory>
-        ensures { IfOk result (λ grammar. grammar ≡ A.means.graph) };
-
-    /// A run over a store begins. The memory for what it does is `alloc`.
-    fn begin(alloc: Global, store: Store) -> A
-        ensures { result ≡ begins store.state };
+    /// A run over a store begins. The memory for its grammar, and for what it does, is `alloc`.
+    fn begin(alloc: Global, store: Store) -> Result<A, NoMemory>
+        ensures { IfOk result (λ app. app ≡ begins store.state) };
 
     /// Its store.
     fn store(app: &A) -> &Store
@@ -69,22 +65,18 @@ fn has_ended<A: Application>(app: &A) -> bool
 fn run_application<A: Application, K: Source, S: Sink, W: Sink, C: Clock, L: Ledger>(
     logging: bool,
     app: &mut A,
-    grammar: &Grammar,
     keys: &mut K,
     screen: &mut S,
     log: &mut W,
     clock: &mut C,
     steps: &mut Steps<L>,
 ) -> Result<(), Stop>
-    requires grammar { grammar.now ≡ A.means.graph }
     ensures { Runs A.means logging (telling K.tells C.tells) app.old app.new
         (scene S.Sink screen.old W.Sink log.old K.Source keys.old C.Clock clock.old steps.old)
         (scene S.Sink screen.new W.Sink log.new K.Source keys.new C.Clock clock.new steps.new)
         result }
 {
-    run(
-        KEY_LIMIT, logging, app, grammar, keys, screen, log, clock, steps,
-    )
+    run(KEY_LIMIT, logging, app, keys, screen, log, clock, steps)
 }
 
 // Runs over the keys to the end, writes the image, and shows the message of the status.
@@ -100,7 +92,6 @@ fn run_store<
 >(
     form: &Form<'_>,
     app: &mut A,
-    grammar: &Grammar,
     host: &mut H,
     keys: &mut K,
     screen: &mut S,
@@ -108,14 +99,13 @@ fn run_store<
     clock: &mut C,
     steps: &mut Steps<L>,
 ) -> Status
-    requires grammar { grammar.now ≡ A.means.graph }
     ensures { (start : State) → app.old ≡ P.begins start
         → Comes (telling K.tells C.tells) (over A.means P.begins P.store_of) (form_view form.now) start
         (scene S.Sink screen.old W.Sink log.old K.Source keys.old C.Clock clock.old steps.old)
         (scene S.Sink screen.new W.Sink log.new K.Source keys.new C.Clock clock.new steps.new)
         (disk_of H.Host host.old) (disk_of H.Host host.new) result }
 {
-    let stop = run_application(form.logs, app, grammar, keys, screen, log, clock, steps);
+    let stop = run_application(form.logs, app, keys, screen, log, clock, steps);
     close(stop, has_ended(app), P::store(app), form.out, host, screen)
 }
 
@@ -154,11 +144,8 @@ pub fn run_program<
         Ok(store) => store,
         Err(status) => return refuse(status, screen),
     };
-    let Ok(grammar) = P::grammar(alloc) else {
+    let Ok(mut app) = P::begin(alloc, store) else {
         return refuse(Status::NoMemory, screen);
     };
-    let mut app = P::begin(alloc, store);
-    run_store::<A, P, H, K, S, W, C, L>(
-        form, &mut app, &grammar, host, keys, screen, log, clock, steps,
-    )
+    run_store::<A, P, H, K, S, W, C, L>(form, &mut app, host, keys, screen, log, clock, steps)
 }

@@ -222,7 +222,7 @@ raw_effects at key =
 -- a typed line that is refused is counted, and no more; one that is given up drops the command that waits
 abbrev pub exec_semantics : Semantics ExecState
 exec_semantics = record {
-  graph = exec_graph;
+  graph_of = λ at. exec_graph;
   rules_of = λ state. exec_meanings;
   catalogue_of = λ at. catalogue_of at.interpreter.state;
   mode_of = λ at. mode_of at.interpreter;

@@ -10,9 +10,11 @@ mod control;
 mod lines;
 
 use crate::command_file::CommandFile;
+use crate::grammar::ExecGrammar;
 use crate::interpreter::Interpreter;
 use arrayvec::ArrayVec;
 use cm_fields::Code;
+use cm_run::Own;
 use ex_store::Store;
 use std::alloc::Global;
 use std::marker::Model;
@@ -25,6 +27,7 @@ pub const MOST_FILES: usize = 4;
 #[derive(Drop)]
 pub struct Exec {
     alloc: Global,
+    grammar: Own<ExecGrammar>,
     interpreter: Interpreter,
     files: ArrayVec<CommandFile, MOST_FILES>,
     taken: u64,
@@ -47,12 +50,14 @@ impl Model for Exec {
 }
 
 impl Exec {
-    /// The EXEC over a store, at a typed line. The memory for files that are typed in or taken is `alloc`.
-    pub fn new(alloc: Global, store: Store) -> Exec
+    /// The EXEC with its grammar, over a store, at a typed line. The memory for files that are typed in or taken is
+    /// `alloc`.
+    pub fn new(alloc: Global, grammar: Own<ExecGrammar>, store: Store) -> Exec
         ensures { result ≡ exec_start store.state }
     {
         Exec {
             alloc,
+            grammar,
             interpreter: Interpreter::new(alloc, store),
             files: ArrayVec::new(),
             taken: 0,

@@ -4,6 +4,7 @@
 
 mod command_file;
 mod exec;
+mod grammar;
 mod interpreter;
 pub mod laws;
 mod pending;
@@ -11,6 +12,7 @@ mod taking;
 mod typing;
 
 pub use exec::{Exec, MOST_FILES};
+pub use grammar::ExecGrammar;
 pub use interpreter::{Interpreter, outcome_of};
 pub use pending::Pending;
 pub use taking::{Took, take};

@@ -5,11 +5,10 @@ ghost use Rattle.cm_run.specs.Cause.{ObeyCause};
 ghost use Rattle.cm_run.specs.Cut.{Traces};
 ghost use Rattle.cm_run.specs.Observation.{observation};
 ghost use Rattle.ex_store.specs.Plan.{IsSource};
-ghost use Rattle.ex_take.specs.Exec.{exec_semantics};
 ghost use Rattle.ex_take.specs.Taking.{Rests, Takes, is_at_rest, outcome_of, take_trace, took_by, took_of};
 
 use crate::Exec;
-use cm_blocks::{Grammar, Steps};
+use cm_blocks::Steps;
 use cm_fields::Code;
 use cm_io::Sink;
 use cm_run::{Stop, run_lines};
@@ -38,13 +37,11 @@ pub fn take<S: Sink, L: Ledger>(
     exec: &mut Exec,
     file: &Place,
     moment: u64,
-    grammar: &Grammar,
     screen: &mut S,
     steps: &mut Steps<L>,
 ) -> Took
     requires rest { is_at_rest exec.old ≡ true }
     requires source { IsSource file.now exec.old.interpreter.state }
-    requires grammar { grammar.now ≡ exec_semantics.graph }
     // [take] What stands is the trace of the file, or a cut of it.
     ensures takes { (log : Contents) → (keys : List ℕ) → (gets : ℕ) → (moments : List ℕ) → Takes
         (observation (S.contents screen.old) log keys gets moments steps.old exec.old)
@@ -56,7 +53,7 @@ pub fn take<S: Sink, L: Ledger>(
     ensures later { S.faults screen.old ≤ S.faults screen.new }
     ensures cause { ObeyCause (S.faults screen.old) (S.faults screen.new) (outcome_of result) }
 {
-    let took = take_lines(exec, file, moment, grammar, screen, steps);
+    let took = take_lines(exec, file, moment, screen, steps);
     exec.rest();
     took
 }
@@ -66,12 +63,10 @@ fn take_lines<S: Sink, L: Ledger>(
     exec: &mut Exec,
     file: &Place,
     moment: u64,
-    grammar: &Grammar,
     screen: &mut S,
     steps: &mut Steps<L>,
 ) -> Took
     requires source { IsSource file.now exec.old.interpreter.state }
-    requires grammar { grammar.now ≡ exec_semantics.graph }
     ensures traces { (log : Contents) → (keys : List ℕ) → (gets : ℕ) → (moments : List ℕ) → Traces
         (observation (S.contents screen.old) log keys gets moments steps.old exec.old)
         (observation (S.contents screen.new) log keys gets moments steps.new exec.new)
@@ -82,7 +77,7 @@ fn take_lines<S: Sink, L: Ledger>(
 {
     match exec.take(file, screen) {
         Ok(()) => {
-            let stop = run_lines(exec, grammar, moment, screen, steps);
+            let stop = run_lines(exec, moment, screen, steps);
             took_by(exec, stop)
         }
         Err(stop) => took_by(exec, Err(stop)),

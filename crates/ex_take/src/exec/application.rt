@@ -32,6 +32,10 @@ impl Application for Exec {
 
     ghost means = { exec_semantics };
 
+    fn grammar(&self) -> &Grammar {
+        self.grammar.lend()
+    }
+
     fn names(&self) -> &Store {
         self.interpreter.store()
     }
@@ -47,11 +51,10 @@ impl Application for Exec {
     fn obey_line<S: Sink>(
         &mut self,
         session: &Session,
-        grammar: &Grammar,
         moment: u64,
         screen: &mut S,
     ) -> Result<(), Stop> {
-        self.obey_done(session, grammar, moment, screen)
+        self.obey_done(session, moment, screen)
     }
 
     fn refuse(&mut self) {
@@ -83,13 +86,12 @@ impl Application for Exec {
     fn obey_file_line<S: Sink>(
         &mut self,
         session: &Session,
-        grammar: &Grammar,
         moment: u64,
         screen: &mut S,
     ) -> Result<(), Stop> {
         self.pass();
         match session.ending() {
-            Ending::Done => self.obey_done(session, grammar, moment, screen),
+            Ending::Done => self.obey_done(session, moment, screen),
             Ending::Fault(fault) => self.refuse_line(fault.code, screen),
             Ending::Open(_) => self.settle(screen),
         }

@@ -13,15 +13,13 @@ ghost use Rattle.ex_take.specs.ExecState.{forgiven};
 ghost use Rattle.ex_take.specs.Interpreter.{command_at, mode_of};
 
 use super::Exec;
-use cm_blocks::Grammar;
 use cm_state::Session;
 use ex_commands::Command;
 
 impl Exec {
     /// What a line commands that is confirmed where no command waits for subcommands.
     #[tactic(auto, using(crate::proofs::PendingCommands::main_line))]
-    pub fn command_of(&self, session: &Session, grammar: &Grammar) -> Command
-        requires grammar { grammar.now ≡ exec_graph }
+    pub fn command_of(&self, session: &Session) -> Command
         requires line { IsLineAt (mode_of self.now.interpreter) session.now.node }
         requires parse { IsParse (setting exec_graph (catalogue_of self.now.interpreter.state) exec_meanings)
             session.now.node (text_of session.now) session.now.fields ending.Done }
@@ -30,7 +28,7 @@ impl Exec {
         ensures may_act { MayAct result self.now.interpreter.state }
         ensures line { self.now.interpreter.typing ≡ None }
     {
-        self.interpreter.command_of(session, grammar)
+        self.interpreter.command_of(session, self.grammar.lend())
     }
 
     /// Forgets why a line was refused last.

@@ -21,7 +21,6 @@ use super::{Exec, MOST_FILES};
 use crate::Pending;
 use crate::command_file::CommandFile;
 use crate::interpreter::outcome_of;
-use cm_blocks::Grammar;
 use cm_fields::Code;
 use cm_io::Sink;
 use cm_run::Stop;
@@ -138,11 +137,9 @@ impl Exec {
     pub(super) fn obey_done<S: Sink>(
         &mut self,
         session: &Session,
-        grammar: &Grammar,
         moment: u64,
         screen: &mut S,
     ) -> Result<(), Stop>
-        requires grammar { grammar.now ≡ exec_graph }
         requires line { IsLineAt (mode_of self.old.interpreter) session.now.node }
         requires parse { IsParse (setting exec_graph (catalogue_of self.old.interpreter.state) exec_meanings)
             session.now.node (text_of session.now) session.now.fields ending.Done }
@@ -154,7 +151,7 @@ impl Exec {
         match self.interpreter.take_pending() {
             Some(pending) => self.add_subcommands(pending, session, screen),
             None => {
-                let command = self.interpreter.command_of(session, grammar);
+                let command = self.interpreter.command_of(session, self.grammar.lend());
                 self.obey_command(command, moment, screen)
             }
         }

@@ -32,4 +32,4 @@ returns g c =
     c.in-Ok.store.state
     (scene g.S.Sink c.args.screen.now g.W.Sink c.args.log.now g.K.Source c.args.keys.now g.C.Clock c.args.clock.now c.args.steps.now)
     _ (disk_of g.H.Host c.args.host.now) (disk_of g.H.Host c.start.new.host) (disk_of g.H.Host c.run_store.new.host) c.run_store.result
-    (c.run_store.ensures c.in-Ok.store.state c.begin-app.ensures) c.in-Ok.ensures.loaded c.in-Ok.ensures.quiet c.in-Ok.ensures.began
+    (c.run_store.ensures c.in-Ok.store.state c.in-Ok-begin.ensures) c.in-Ok.ensures.loaded c.in-Ok.ensures.quiet c.in-Ok.ensures.began
