@@ -11,9 +11,8 @@ use crate::progress::GENERATED_KEYS;
 use crate::summary::Summary;
 use cm_blocks::Steps;
 use cm_io::{CountSink, NoMemory, Sink};
-use cm_run::{NoClock, Stop, run};
+use cm_run::{NoClock, Own, Stop, run};
 use cm_text::end_of_line;
-use ex_grammar::grammar;
 use ex_store::Store;
 use ex_take::Exec;
 use std::alloc::Global;
@@ -52,8 +51,7 @@ pub fn summarize<L: Ledger>(
     // .. and where memory runs out, before the run or at an act of it, by those before.
     ensures wanting { OnErr result (LacksMemory lines steps.old steps.new) }
 {
-    let grammar = grammar(alloc)?;
-    let mut exec = Exec::new(alloc, Store::new(alloc)?);
+    let mut exec = Exec::new(alloc, Own::new(alloc)?, Store::new(alloc)?);
     let mut keys = Generator::new(lines);
     let all = keys.count_left();
     let mut screen = CountSink::new();
@@ -61,7 +59,6 @@ pub fn summarize<L: Ledger>(
         GENERATED_KEYS,
         false,
         &mut exec,
-        &grammar,
         &mut keys,
         &mut screen,
         &mut CountSink::new(),

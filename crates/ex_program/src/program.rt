@@ -29,9 +29,9 @@ ghost use Rattle.ex_program.specs.Summary.{generated_trace, summary_text};
 use crate::generated_run::summarize;
 use crate::summary::Summary;
 use crate::words::{read_form, read_lines, usage};
-use cm_blocks::{Grammar, Steps};
+use cm_blocks::Steps;
 use cm_io::{Clock, Host, NoMemory, Put, Sink, Source, Writer};
-use ex_grammar::grammar;
+use cm_run::Own;
 use ex_run::{Program, run_program};
 use ex_store::Store;
 use ex_system::{Status, Words, refuse, refuse_usage};
@@ -50,12 +50,8 @@ impl Program<Exec> for ExecProgram {
 
     ghost store_of = { λ at. at.interpreter.state };
 
-    fn grammar(alloc: Global) -> Result<Grammar, NoMemory> {
-        grammar(alloc)
-    }
-
-    fn begin(alloc: Global, store: Store) -> Exec {
-        Exec::new(alloc, store)
+    fn begin(alloc: Global, store: Store) -> Result<Exec, NoMemory> {
+        Ok(Exec::new(alloc, Own::new(alloc)?, store))
     }
 
     fn store(app: &Exec) -> &Store {

@@ -17,7 +17,7 @@ error_of-requires g c =
 pub returns-in-Err-clause-wanting : goal.returns-in-Err-clause-wanting
 returns-in-Err-clause-wanting g c =
     cut_for_memory c.args.lines _ _ _ _ c.error_of.ensures (c.in-Err.ensures.traces refl refl)
-    (trace_from_first c.args.lines c.new-exec.result _ c.new-keys.result c.new-exec.ensures c.in_ok-new.ensures c.new-keys.ensures)
+    (trace_from_first c.args.lines c.new-exec.result _ c.new-keys.result c.new-exec.ensures c.in_ok-new-2.ensures c.new-keys.ensures)
 
 pub overflow_sub-result : goal.overflow_sub-result
 overflow_sub-result g c =
@@ -34,10 +34,10 @@ returns-clause-summary g c =
     c.has_ended.ensures
     (c.count.ensures ∙ shown _ _ _ _ _ c.new-screen.ensures (performed _ _ _ (c.in-Ok.ensures.traces refl refl)).screen c.end_line.ensures)
     (c.rows.ensures ∙ ap (λ (it : State). length it.rows) (c.parts.ensures.value ∙ c.store.ensures))
-    ∙ from_first c.args.lines c.new-exec.result _ c.new-keys.result c.new-exec.ensures c.in_ok-new.ensures c.new-keys.ensures
+    ∙ from_first c.args.lines c.new-exec.result _ c.new-keys.result c.new-exec.ensures c.in_ok-new-2.ensures c.new-keys.ensures
 
 pub returns-clause-counted : goal.returns-clause-counted
 returns-clause-counted g c =
     (performed _ _ _ (c.in-Ok.ensures.traces refl refl)).trials
     ∙ ap (λ (events : List (Event ExecState)). c.args.steps.now + trials_of events)
-    (trace_from_first c.args.lines c.new-exec.result _ c.new-keys.result c.new-exec.ensures c.in_ok-new.ensures c.new-keys.ensures)
+    (trace_from_first c.args.lines c.new-exec.result _ c.new-keys.result c.new-exec.ensures c.in_ok-new-2.ensures c.new-keys.ensures)
