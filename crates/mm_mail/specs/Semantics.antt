@@ -99,7 +99,7 @@ echo_by key (Some message) = echo_text (echo_of message.typed key)
 -- a line that is refused or given up changes nothing, and there are no command files
 abbrev pub mail_semantics : Semantics MailState
 mail_semantics = record {
-  graph = mail_graph;
+  graph_of = λ mail. mail_graph;
   rules_of = λ state. mail_meanings;
   catalogue_of = λ mail. catalogue_of mail.state;
   mode_of = mode_of;

@@ -17,6 +17,10 @@ impl Application for Mail {
 
     ghost means = { mail_semantics };
 
+    fn grammar(&self) -> &Grammar {
+        self.grammar()
+    }
+
     fn names(&self) -> &Store {
         self.store()
     }
@@ -32,7 +36,6 @@ impl Application for Mail {
     fn obey_line<S: Sink>(
         &mut self,
         session: &Session,
-        _grammar: &Grammar,
         moment: u64,
         screen: &mut S,
     ) -> Result<(), Stop> {
@@ -60,7 +63,6 @@ impl Application for Mail {
     fn obey_file_line<S: Sink>(
         &mut self,
         _session: &Session,
-        _grammar: &Grammar,
         _moment: u64,
         _screen: &mut S,
     ) -> Result<(), Stop> {

@@ -4,6 +4,7 @@ ghost use Rattle.mm_mail.specs.Graph.{blocks, command_entries, mail_graph, mail_
 
 use cm_blocks::{Block, Function, Grammar, Node, Role, push_nodes};
 use cm_io::NoMemory;
+use cm_run::Known;
 use cm_tables::{Entry, Table};
 use std::alloc::Global;
 
@@ -35,6 +36,19 @@ pub fn mail_grammar(alloc: Global) -> Result<Grammar, NoMemory>
 {
     let tables = vec![in alloc; commands(alloc)?]?;
     Ok(Grammar::of(nodes(alloc)?, tables))
+}
+
+/// The same, as mail holds it.
+pub struct MailGrammar;
+
+impl Known for MailGrammar {
+    ghost use Rattle.mm_mail.specs.Graph.{mail_graph};
+
+    ghost graph = { mail_graph };
+
+    fn make(alloc: Global) -> Result<Grammar, NoMemory> {
+        mail_grammar(alloc)
+    }
 }
 
 // The commands, each with the node after it.

@@ -18,7 +18,7 @@ mod words;
 
 pub use command::{Command, command_of};
 pub use ex_system::{Status, Words};
-pub use grammar::mail_grammar;
+pub use grammar::{MailGrammar, mail_grammar};
 pub use mail::Mail;
 pub use message::Message;
 pub use message_name::MOST_MESSAGES;

@@ -22,11 +22,12 @@ ghost use Rattle.mm_mail.specs.declared.grammar.TheConstants.{COMMANDS};
 use crate::acts::act;
 use crate::command::{Command, command_of};
 use crate::delivery::send;
-use crate::grammar::COMMANDS;
+use crate::grammar::{COMMANDS, MailGrammar};
 use crate::laws::a_line_may_act;
 use crate::message::Message;
+use cm_blocks::Grammar;
 use cm_io::{NoMemory, Put, Sink};
-use cm_run::{Mode, Stop};
+use cm_run::{Mode, Own, Stop};
 use cm_state::{Prompt, Session};
 use cm_text::Name;
 use ex_commands::{Data, DataTurn};
@@ -40,6 +41,7 @@ use std::marker::Model;
 #[derive(Drop)]
 pub struct Mail {
     alloc: Global,
+    grammar: Own<MailGrammar>,
     store: Store,
     writing: Option<Message>,
     has_ended: bool,
@@ -64,12 +66,13 @@ impl Model for Mail {
 }
 
 impl Mail {
-    /// Mail over a store, at a line. The memory for messages that are typed in is `alloc`.
-    pub fn new(alloc: Global, store: Store) -> Mail
+    /// Mail with its grammar, over a store, at a line. The memory for messages that are typed in is `alloc`.
+    pub fn new(alloc: Global, grammar: Own<MailGrammar>, store: Store) -> Mail
         ensures { result ≡ mail_start store.state }
     {
         Mail {
             alloc,
+            grammar,
             store,
             writing: None,
             has_ended: false,
@@ -88,6 +91,13 @@ impl Mail {
         ensures { result ≡ self.now.ended }
     {
         self.has_ended
+    }
+
+    // What a line is parsed under.
+    pub(crate) fn grammar(&self) -> &Grammar
+        ensures { result.now ≡ mail_graph }
+    {
+        self.grammar.lend()
     }
 
     // What a confirmed line commands.

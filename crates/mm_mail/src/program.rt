@@ -22,11 +22,11 @@ ghost use Rattle.mm_mail.specs.MailRun.{Stands, mail_left, mail_trace, run_shown
 ghost use Rattle.mm_mail.specs.MailState.{mail_start};
 ghost use Rattle.mm_mail.specs.Semantics.{mail_over, mail_semantics};
 
-use crate::grammar::mail_grammar;
 use crate::mail::Mail;
 use crate::words::{read_form, usage};
-use cm_blocks::{Grammar, Steps};
+use cm_blocks::Steps;
 use cm_io::{Clock, Host, NoMemory, Sink, Source};
+use cm_run::Own;
 use ex_run::{NoLog, Program, run_program};
 use ex_store::Store;
 use ex_system::{Status, Words, refuse_usage};
@@ -44,12 +44,8 @@ impl Program<Mail> for MailProgram {
 
     ghost store_of = { λ mail. mail.state };
 
-    fn grammar(alloc: Global) -> Result<Grammar, NoMemory> {
-        mail_grammar(alloc)
-    }
-
-    fn begin(alloc: Global, store: Store) -> Mail {
-        Mail::new(alloc, store)
+    fn begin(alloc: Global, store: Store) -> Result<Mail, NoMemory> {
+        Ok(Mail::new(alloc, Own::new(alloc)?, store))
     }
 
     fn store(app: &Mail) -> &Store {
