@@ -1,11 +1,10 @@
 -- What is known of a run of a control file, and of one that does not begin.
--- The whole run is one trace (whole_of), also where it is out of memory before the lines. Its clauses are fields of one
--- record (Heads), made once for each way out.
-use Rattle.std.proofs.Common.{◌≡◌, ◌⊎◌, ℕ, ◌+◌, ◌≤◌, Bool, List, [], ◌++◌, Option, None, Some, IsTrue, Result, Ok, Err, refl, sym, ap, ◌∙◌, subst, inl, inr, arith}
+-- The whole run is one trace (whole_of), also where it is out of memory before the lines. What is known of it is one
+-- record (Course), made once for each way out.
+use Rattle.std.proofs.Common.{◌≡◌, ◌⊎◌, ℕ, ◌+◌, ◌≤◌, Bool, List, [], Option, None, Some, IsTrue, Result, Ok, Err, refl, sym, ap, ◌∙◌, subst, inl, inr, arith}
 use Rattle.std.specs.Prelude.{IfOk}
 use Rattle.cm_io.specs.declared.status.Status.{Status}
 use Rattle.cm_io.specs.declared.status.Status.TheVariants as status
-use Rattle.cm_io.specs.Contents.{Contents}
 use Rattle.cm_run.specs.Cause.{ObeyCause}
 use Rattle.cm_run.specs.Cut.{Traces}
 use Rattle.cm_run.specs.Event.{screen_bytes, state_after, trials_of}
@@ -24,10 +23,7 @@ use Rattle.ex_system.proofs.Starts.{began_cause, early_memory, not_quiet, one_st
 use Rattle.ex_system.proofs.Trials.{tried_after}
 use Rattle.ex_take.specs.ExecState.{ExecState, exec_start}
 use Rattle.ex_batch.specs.Batch.{Batch}
-use Rattle.ex_batch.specs.Heads.{Heads}
-use Rattle.ex_batch.specs.Moments.{OfMoments}
-use Rattle.cm_text.specs.ScreenBytes.{end_of_line}
-use Rattle.ex_batch.specs.RunEnd.{Course, Follows, IsBatch, IsWhole, JobForm, Past, Scene, ScreenCause, ShowsEnd, Stands, StartCause, closing, end_status, end_text, seen, status_of, usage, with_screen}
+use Rattle.ex_batch.specs.RunEnd.{Course, Follows, IsBatch, IsWhole, JobForm, Past, Scene, ScreenCause, ShowsEnd, closing, end_status, end_text, seen, status_of, with_screen}
 use Rattle.ex_batch.specs.Takes.{step_outcome}
 use Rattle.ex_batch.specs.Whole.{whole_of}
 use Rattle.ex_batch.specs.declared.step.Ended.{Ended}
@@ -215,42 +211,3 @@ module _ (known : Type 0) (asked : JobForm) (a b : Scene) (before now : Disk) (r
           (one_start before asked.form.input past.start start past.begins.2 starts) follows;
     };
   }
-
--- by the words alone
-one_form : (asked : Option JobForm) (first second : JobForm) → Some first ≡ asked → asked ≡ Some second → first ≡ second
-one_form asked first second is was = cc
-
-pub heads : (known : Type 0) (asked : Option JobForm) (form : JobForm) (a b : Scene) (before now : Disk) (result : Status)
-    → Some form ≡ asked → Course known form a b before now result → Heads known asked a b before now result
-heads known asked form a b before now result is course = record {
-  stands = subst (λ (it : Option JobForm). Stands known it a b before now result) is course.stands;
-  batch = course.batch;
-  usage = (λ usage. absurd (course.usage usage), λ none. let wrong : Some form ≡ None = is ∙ none in absurd (cc));
-  cause = course.cause;
-  host_cause = course.host_cause;
-  start = subst (λ (it : Option JobForm). StartCause before it result) is course.start;
-  follows = λ other start asks.
-      let same : form ≡ other = one_form asked form other is asks.0 in
-      subst (λ (it : JobForm). OfMoments known a.moments (Follows it.file it.form.out start a b before now result)) same
-      (course.follows start (subst (λ (it : JobForm). Starts before it.form.input start) (sym same) asks.1));
-}
-
--- and where these are others
-pub heads_usage : (known : Type 0) (asked : Option JobForm) (a b : Scene) (before : Disk) (result : Status) → None ≡ asked
-    → result ≡ status.Usage → Stands known None a b before before result → Heads known asked a b before before result
-heads_usage known asked a b before result none is stands =
-    subst (λ (it : Option JobForm). Heads known it a b before before result) none
-    (subst (λ (it : Status). Stands known None a b before before it → Heads known None a b before before it) (sym is)
-    (λ stands. record {
-      stands = stands;
-      batch = tt;
-      usage = (λ _. refl, λ _. refl);
-      cause = tt;
-      host_cause = refl;
-      start = tt;
-      follows = λ form start asks. let wrong : None ≡ Some form = asks.0 in absurd (cc);
-    }) stands)
-
-pub usage_tried : (before now : Contents) (f g : ℕ) (text : List ℕ) → text ≡ usage → Tried before now f g [] (text ++ end_of_line)
-    → Tried before now f g [] (usage ++ end_of_line)
-usage_tried before now f g text is tried = subst (λ (it : List ℕ). Tried before now f g [] (it ++ end_of_line)) is tried

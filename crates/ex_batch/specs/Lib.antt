@@ -1,7 +1,6 @@
 pub mod Batch
 pub mod Control
 pub mod ControlFile
-pub mod Heads
 pub mod Job
 pub mod Labels
 pub mod LineCount

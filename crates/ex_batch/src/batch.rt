@@ -4,14 +4,13 @@ ghost use Rattle.cm_io.specs.Contents.{Contents};
 ghost use Rattle.cm_run.specs.Cause.{ObeyCause};
 ghost use Rattle.cm_run.specs.Observation.{observation};
 ghost use Rattle.ex_batch.specs.Batch.{batch_of, limit_end};
-ghost use Rattle.ex_batch.specs.Job.{job_semantics};
 ghost use Rattle.ex_batch.specs.Moments.{OverMoments};
 ghost use Rattle.ex_batch.specs.Takes.{Runs, step_outcome};
 
 use crate::file::ControlFile;
 use crate::job::Job;
 use crate::step::{Ended, Next, take_control};
-use cm_blocks::{Grammar, Steps};
+use cm_blocks::Steps;
 use cm_fields::Code;
 use cm_io::{Clock, Sink};
 use cm_run::Stop;
@@ -36,12 +35,10 @@ fn limit_end(file: &ControlFile, place: usize) -> Ended
 pub fn run_batch<S: Sink, C: Clock, L: Ledger>(
     file: &ControlFile,
     job: &mut Job,
-    grammar: &Grammar,
     screen: &mut S,
     clock: &mut C,
     steps: &mut Steps<L>,
 ) -> Result<Ended, Stop>
-    requires grammar { grammar.now ≡ job_semantics.graph }
     // [batch-line] What stands is the trace of the run, or a cut of it; and where it was not cut, it ends as the run
     // does. That holds over the moments of a clock that tells, and of each other clock over some moments.
     ensures runs { OverMoments C.tells (C.left clock.old) (C.left clock.new) (λ given later.
@@ -54,7 +51,7 @@ pub fn run_batch<S: Sink, C: Clock, L: Ledger>(
 {
     let mut place = 0;
     for _line in 0..CONTROL_LINES {
-        match take_control(file, place, job, grammar, screen, clock, steps) {
+        match take_control(file, place, job, screen, clock, steps) {
             Ok(Next::Line(next)) => place = next,
             Ok(Next::Over(end)) => return Ok(end),
             Err(stop) => return Err(stop),

@@ -18,12 +18,12 @@ ghost use Rattle.ex_batch.specs.Job.{bar_of, job_effects, order_effects};
 use cm_blocks::{Ending, Grammar};
 use cm_fields::Code;
 use cm_io::{Put, Sink};
-use cm_run::{Application, Mode, Stop};
+use cm_run::{Application, Mode, Own, Stop};
 use cm_state::Session;
 use ex_commands::Command;
 use ex_grammar::ExecRules;
 use ex_store::Store;
-use ex_take::Exec;
+use ex_take::{Exec, ExecGrammar};
 use std::alloc::Global;
 use std::marker::Model;
 
@@ -60,12 +60,12 @@ fn bar_of(command: &Command) -> Option<Code>
 }
 
 impl Job {
-    /// The EXEC over a store. The memory for what is taken is `alloc`.
-    pub fn new(alloc: Global, store: Store) -> Job
+    /// The EXEC with its grammar, over a store. The memory for what is taken is `alloc`.
+    pub fn new(alloc: Global, grammar: Own<ExecGrammar>, store: Store) -> Job
         ensures { result ≡ exec_start store.state }
     {
         Job {
-            exec: Exec::new(alloc, store),
+            exec: Exec::new(alloc, grammar, store),
         }
     }
 
@@ -112,11 +112,9 @@ impl Job {
     fn obey_order<S: Sink>(
         &mut self,
         session: &Session,
-        grammar: &Grammar,
         moment: u64,
         screen: &mut S,
     ) -> Result<(), Stop>
-        requires grammar { grammar.now ≡ exec_graph }
         requires line { IsLineAt (mode_of self.old.interpreter) session.now.node }
         requires parse { IsParse (setting exec_graph (catalogue_of self.old.interpreter.state) exec_meanings)
             session.now.node (text_of session.now) session.now.fields ending.Done }
@@ -126,7 +124,7 @@ impl Job {
         ensures later { S.faults screen.old ≤ S.faults screen.new }
         ensures cause { ObeyCause (S.faults screen.old) (S.faults screen.new) result }
     {
-        let command = self.exec.command_of(session, grammar);
+        let command = self.exec.command_of(session);
         match bar_of(&command) {
             Some(code) => self.exec.refuse_line(code, screen),
             None => self.exec.obey_command(command, moment, screen),
@@ -138,11 +136,9 @@ impl Job {
     fn take_order<S: Sink>(
         &mut self,
         session: &Session,
-        grammar: &Grammar,
         moment: u64,
         screen: &mut S,
     ) -> Result<(), Stop>
-        requires grammar { grammar.now ≡ exec_graph }
         requires line { IsLineAt (mode_of self.old.interpreter) session.now.node }
         requires parse { IsParse (setting exec_graph (catalogue_of self.old.interpreter.state) exec_meanings)
             session.now.node (text_of session.now) session.now.fields session.now.ending }
@@ -153,7 +149,7 @@ impl Job {
         ensures cause { ObeyCause (S.faults screen.old) (S.faults screen.new) result }
     {
         match session.ending() {
-            Ending::Done => self.obey_order(session, grammar, moment, screen),
+            Ending::Done => self.obey_order(session, moment, screen),
             Ending::Fault(fault) => self.exec.refuse_line(fault.code, screen),
             Ending::Open(_) => Ok(()),
         }
@@ -168,6 +164,10 @@ impl Application for Job {
     type Names = Store;
 
     ghost means = { job_semantics };
+
+    fn grammar(&self) -> &Grammar {
+        self.exec.grammar()
+    }
 
     fn names(&self) -> &Store {
         self.exec.names()
@@ -184,11 +184,10 @@ impl Application for Job {
     fn obey_line<S: Sink>(
         &mut self,
         session: &Session,
-        grammar: &Grammar,
         moment: u64,
         screen: &mut S,
     ) -> Result<(), Stop> {
-        self.exec.obey_line(session, grammar, moment, screen)
+        self.exec.obey_line(session, moment, screen)
     }
 
     fn refuse(&mut self) {
@@ -215,14 +214,13 @@ impl Application for Job {
     fn obey_file_line<S: Sink>(
         &mut self,
         session: &Session,
-        grammar: &Grammar,
         moment: u64,
         screen: &mut S,
     ) -> Result<(), Stop> {
         if self.exec.is_at_rest() {
-            self.take_order(session, grammar, moment, screen)
+            self.take_order(session, moment, screen)
         } else {
-            self.exec.obey_file_line(session, grammar, moment, screen)
+            self.exec.obey_file_line(session, moment, screen)
         }
     }
 }

@@ -11,8 +11,6 @@ ghost use Rattle.ex_system.specs.Quiet.{IsQuiet};
 ghost use Rattle.ex_system.specs.Saving.{HostCause};
 ghost use Rattle.ex_system.specs.Trying.{Tried};
 ghost use Rattle.ex_batch.specs.Request.{job_view};
-ghost use Rattle.ex_batch.specs.Heads.{Heads};
-ghost use Rattle.ex_batch.specs.Job.{job_semantics};
 ghost use Rattle.ex_batch.specs.Moments.{OfMoments};
 ghost use Rattle.ex_batch.specs.RunEnd.{Asks, Course, IsBatch, IsWhole, JobForm as Asked, Ran, ScreenCause, Stands, StartCause, end_status, end_text, form_of, scene, usage, with_file};
 ghost use Rattle.ex_batch.specs.Whole.{whole_of};
@@ -23,11 +21,10 @@ use crate::ending::close;
 use crate::file::ControlFile;
 use crate::job::Job;
 use crate::step::Ended;
-use cm_blocks::{Grammar, Steps};
+use cm_blocks::Steps;
 use cm_io::{Clock, Host, Sink, Status, Words};
-use cm_run::Stop;
+use cm_run::{Own, Stop};
 use ex_commands::file_bytes;
-use ex_grammar::grammar;
 use ex_system::{Form, as_triple, in_out, refuse, refuse_usage, start};
 use std::alloc::Global;
 use std::sync::ledger::Ledger;
@@ -80,12 +77,10 @@ fn run_file<S: Sink, C: Clock, L: Ledger>(
     alloc: Global,
     file: &[u8],
     job: &mut Job,
-    grammar: &Grammar,
     screen: &mut S,
     clock: &mut C,
     steps: &mut Steps<L>,
 ) -> Result<Ended, Stop>
-    requires grammar { grammar.now ≡ job_semantics.graph }
     ensures { (start : State) → job.old ≡ exec_start start → Ran (IsTrue C.tells) file.now start job.new result
         (scene S.Sink screen.old C.Clock clock.old steps.old) (scene S.Sink screen.new C.Clock clock.new steps.new) }
 {
@@ -97,7 +92,7 @@ fn run_file<S: Sink, C: Clock, L: Ledger>(
     let Ok(file) = ControlFile::read(alloc, file_bytes(held, &place)) else {
         return Err(Stop::Memory);
     };
-    run_batch(&file, job, grammar, screen, clock, steps)
+    run_batch(&file, job, screen, clock, steps)
 }
 
 // Runs a control file as a form asks.
@@ -117,40 +112,13 @@ fn run_form<H: Host, S: Sink, C: Clock, L: Ledger>(
         Ok(store) => store,
         Err(status) => return refuse(status, screen),
     };
-    let Ok(grammar) = grammar(alloc) else {
+    let Ok(grammar) = Own::new(alloc) else {
         return refuse(Status::NoMemory, screen);
     };
-    let mut job = Job::new(alloc, store);
-    let how = run_file(
-        alloc,
-        asked.file.as_bytes(),
-        &mut job,
-        &grammar,
-        screen,
-        clock,
-        steps,
-    );
+    let mut job = Job::new(alloc, grammar, store);
+    let how = run_file(alloc, asked.file.as_bytes(), &mut job, screen, clock, steps);
     let left = job.store();
     close(how, left, asked.form.out, host, screen)
-}
-
-// Runs a control file as the words ask.
-fn run_words<H: Host, S: Sink, C: Clock, L: Ledger>(
-    alloc: Global,
-    words: &Words,
-    host: &mut H,
-    screen: &mut S,
-    clock: &mut C,
-    steps: &mut Steps<L>,
-) -> Status
-    ensures { Heads (IsTrue C.tells) (form_of words.now)
-        (scene S.Sink screen.old C.Clock clock.old steps.old) (scene S.Sink screen.new C.Clock clock.new steps.new)
-        (disk_of H.Host host.old) (disk_of H.Host host.new) result }
-{
-    match form_of(words) {
-        Some(asked) => run_form(alloc, &asked, host, screen, clock, steps),
-        None => refuse_usage(usage(), screen),
-    }
 }
 
 /// The program `batch20`: runs a control file over a store, without keys, and writes the image at the end.
@@ -230,5 +198,8 @@ pub fn batch20<H: Host, S: Sink, C: Clock, L: Ledger>(
         → OfMoments (IsTrue C.tells) (C.left clock.old) (λ moments.
         (result ≡ end_status (whole_of start asked.file moments).end) ⊎ (result ≡ Status.NoMemory)) }
 {
-    run_words(alloc, words, host, screen, clock, steps)
+    let Some(asked) = form_of(words) else {
+        return refuse_usage(usage(), screen);
+    };
+    run_form(alloc, &asked, host, screen, clock, steps)
 }

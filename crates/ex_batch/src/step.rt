@@ -8,7 +8,6 @@ ghost use Rattle.cm_run.specs.Event.{Moment};
 ghost use Rattle.cm_run.specs.Observation.{observation};
 ghost use Rattle.ex_batch.specs.Control.{AreNamed, IsNamed, control_view, order_view};
 ghost use Rattle.ex_batch.specs.Batch.{after_event, after_text, condition_step, control_step, is_met, label_next, line_step, nothing_but, order_step, text_step, text_trace, unless_refused};
-ghost use Rattle.ex_batch.specs.Job.{job_semantics};
 ghost use Rattle.ex_batch.specs.Moments.{OverMoments};
 ghost use Rattle.ex_batch.specs.Takes.{Takes, step_outcome};
 
@@ -16,7 +15,7 @@ use crate::control::{Control, Order, control_of, parsable};
 use crate::file::ControlFile;
 use crate::job::Job;
 use crate::line_bytes::show_line;
-use cm_blocks::{Grammar, Steps};
+use cm_blocks::Steps;
 use cm_fields::Code;
 use cm_io::{Clock, Sink};
 use cm_run::{Stop, run_line};
@@ -45,12 +44,10 @@ pub(crate) enum Next {
 fn take_text<S: Sink, L: Ledger>(
     text: &[u8],
     job: &mut Job,
-    grammar: &Grammar,
     moment: u64,
     screen: &mut S,
     steps: &mut Steps<L>,
 ) -> Result<(), Stop>
-    requires grammar { grammar.now ≡ job_semantics.graph }
     ensures traces { (log : Contents) → (keys : List ℕ) → (gets : ℕ) → (moments : List ℕ) → Traces
         (observation (S.contents screen.old) log keys gets moments steps.old job.old)
         (observation (S.contents screen.new) log keys gets moments steps.new job.new)
@@ -59,7 +56,7 @@ fn take_text<S: Sink, L: Ledger>(
     ensures cause { ObeyCause (S.faults screen.old) (S.faults screen.new) result }
 {
     match parsable(text) {
-        Some(line) => run_line(job, line, grammar, moment, screen, steps),
+        Some(line) => run_line(job, line, moment, screen, steps),
         None => job.refuse_line(Code::BadLine, screen),
     }
 }
@@ -81,12 +78,10 @@ fn do_text<S: Sink, C: Clock, L: Ledger>(
     place: usize,
     text: &[u8],
     job: &mut Job,
-    grammar: &Grammar,
     screen: &mut S,
     clock: &mut C,
     steps: &mut Steps<L>,
 ) -> Result<Next, Stop>
-    requires grammar { grammar.now ≡ job_semantics.graph }
     requires within { place + 1 < 2 ^ 64 }
     ensures takes { OverMoments C.tells (C.left clock.old) (C.left clock.new) (λ given later.
         (log : Contents) → (keys : List ℕ) → (gets : ℕ) → Takes
@@ -97,7 +92,7 @@ fn do_text<S: Sink, C: Clock, L: Ledger>(
     ensures cause { ObeyCause (S.faults screen.old) (S.faults screen.new) (step_outcome result) }
 {
     let moment = clock.now();
-    match take_text(text, job, grammar, moment, screen, steps) {
+    match take_text(text, job, moment, screen, steps) {
         Ok(()) => Ok(after_text(place, job)),
         Err(stop) => Err(stop),
     }
@@ -120,12 +115,10 @@ fn do_order<S: Sink, C: Clock, L: Ledger>(
     place: usize,
     order: Order<'_>,
     job: &mut Job,
-    grammar: &Grammar,
     screen: &mut S,
     clock: &mut C,
     steps: &mut Steps<L>,
 ) -> Result<Next, Stop>
-    requires grammar { grammar.now ≡ job_semantics.graph }
     requires within { place + 1 < 2 ^ 64 }
     requires named { IsNamed (order_view order) }
     ensures takes { OverMoments C.tells (C.left clock.old) (C.left clock.new) (λ given later.
@@ -138,7 +131,7 @@ fn do_order<S: Sink, C: Clock, L: Ledger>(
 {
     match order {
         Order::Goto(name) => Ok(label_next(file.place(name))),
-        Order::Exec(text) => do_text(place, text, job, grammar, screen, clock, steps),
+        Order::Exec(text) => do_text(place, text, job, screen, clock, steps),
         Order::Bad => Ok(Next::Over(Ended::Stopped(Code::BadControl))),
     }
 }
@@ -158,12 +151,10 @@ fn do_condition<S: Sink, C: Clock, L: Ledger>(
     place: usize,
     order: Order<'_>,
     job: &mut Job,
-    grammar: &Grammar,
     screen: &mut S,
     clock: &mut C,
     steps: &mut Steps<L>,
 ) -> Result<Next, Stop>
-    requires grammar { grammar.now ≡ job_semantics.graph }
     requires within { place + 1 < 2 ^ 64 }
     requires named { IsNamed (order_view order) }
     ensures takes { OverMoments C.tells (C.left clock.old) (C.left clock.new) (λ given later.
@@ -176,7 +167,7 @@ fn do_condition<S: Sink, C: Clock, L: Ledger>(
 {
     job.forgive();
     if met {
-        do_order(file, place, order, job, grammar, screen, clock, steps)
+        do_order(file, place, order, job, screen, clock, steps)
     } else {
         Ok(Next::Line(place + 1))
     }
@@ -189,12 +180,10 @@ fn do_unless_refused<S: Sink, C: Clock, L: Ledger>(
     place: usize,
     order: Order<'_>,
     job: &mut Job,
-    grammar: &Grammar,
     screen: &mut S,
     clock: &mut C,
     steps: &mut Steps<L>,
 ) -> Result<Next, Stop>
-    requires grammar { grammar.now ≡ job_semantics.graph }
     requires within { place + 1 < 2 ^ 64 }
     requires named { IsNamed (order_view order) }
     ensures takes { OverMoments C.tells (C.left clock.old) (C.left clock.new) (λ given later.
@@ -208,7 +197,7 @@ fn do_unless_refused<S: Sink, C: Clock, L: Ledger>(
 {
     match job.stop() {
         Some(code) => Ok(Next::Over(Ended::Stopped(code))),
-        None => do_order(file, place, order, job, grammar, screen, clock, steps),
+        None => do_order(file, place, order, job, screen, clock, steps),
     }
 }
 
@@ -230,12 +219,10 @@ fn do_control<S: Sink, C: Clock, L: Ledger>(
     place: usize,
     control: Control<'_>,
     job: &mut Job,
-    grammar: &Grammar,
     screen: &mut S,
     clock: &mut C,
     steps: &mut Steps<L>,
 ) -> Result<Next, Stop>
-    requires grammar { grammar.now ≡ job_semantics.graph }
     requires within { place + 1 < 2 ^ 64 }
     requires named { AreNamed (control_view control) }
     ensures takes { OverMoments C.tells (C.left clock.old) (C.left clock.new) (λ given later.
@@ -254,15 +241,12 @@ fn do_control<S: Sink, C: Clock, L: Ledger>(
             place,
             order,
             job,
-            grammar,
             screen,
             clock,
             steps,
         ),
         Control::Label(_) => Ok(after_label(place, job)),
-        Control::Plain(order) => do_unless_refused(
-            file, place, order, job, grammar, screen, clock, steps,
-        ),
+        Control::Plain(order) => do_unless_refused(file, place, order, job, screen, clock, steps),
     }
 }
 
@@ -272,12 +256,10 @@ pub(crate) fn take_control<S: Sink, C: Clock, L: Ledger>(
     file: &ControlFile,
     place: usize,
     job: &mut Job,
-    grammar: &Grammar,
     screen: &mut S,
     clock: &mut C,
     steps: &mut Steps<L>,
 ) -> Result<Next, Stop>
-    requires grammar { grammar.now ≡ job_semantics.graph }
     ensures takes { OverMoments C.tells (C.left clock.old) (C.left clock.new) (λ given later.
         (log : Contents) → (keys : List ℕ) → (gets : ℕ) → Takes
         (observation (S.contents screen.old) log keys gets given steps.old job.old)
@@ -290,16 +272,7 @@ pub(crate) fn take_control<S: Sink, C: Clock, L: Ledger>(
         return Ok(Next::Over(Ended::Finished));
     };
     match show_line(line, screen) {
-        Ok(()) => do_control(
-            file,
-            place,
-            control_of(line),
-            job,
-            grammar,
-            screen,
-            clock,
-            steps,
-        ),
+        Ok(()) => do_control(file, place, control_of(line), job, screen, clock, steps),
         Err(stop) => Err(stop),
     }
 }
