@@ -27,7 +27,7 @@ marked at session = record {
 -- lines that wait are empty
 abbrev pub tally_semantics : Semantics Tally
 tally_semantics = record {
-  graph = graph;
+  graph_of = λ at. graph;
   rules_of = λ at. no_meanings;
   catalogue_of = λ at. at.names;
   mode_of = λ at. mode.Line 0 Main false;

@@ -6,9 +6,8 @@ use cm_blocks::Steps;
 use cm_files::OneDirectory;
 use cm_io::MemSink;
 use cm_line::Line;
-use cm_run::{Stop, run_line};
+use cm_run::{Own, Stop, run_line};
 use cm_text::is_text;
-use eg_template::grammar::grammar;
 use std::marker::Brand;
 use std::process::Abort;
 use std::sync::ledger::{Blank, Ledger};
@@ -48,22 +47,15 @@ fn is_so_with<L: Ledger, A: Abort>(
     requires some { 0 < L.parts }
 {
     let alloc = runtime.alloc();
-    let grammar = grammar(alloc)?;
     let mut steps: Steps<L> = Steps::new(runtime, blank);
     let mut screen = MemSink::new(alloc, case.room)?;
     let mut tally = Tally {
+        grammar: Own::new(alloc)?,
         names: OneDirectory::nothing(),
         waits: case.waits,
     };
     let line = line_of(rt, case.line);
-    let result = run_line(
-        &mut tally,
-        line.bytes(),
-        &grammar,
-        0,
-        &mut screen,
-        &mut steps,
-    );
+    let result = run_line(&mut tally, line.bytes(), 0, &mut screen, &mut steps);
     Ok(result == case.result && screen.bytes() == case.marks && tally.waits == case.left)
 }
 

@@ -1,6 +1,9 @@
-//! Tests of the engine by a small application.
+//! Tests of the engine by small programs.
 #![tactic(auto)]
 
 #[cfg(test)]
+mod grammars;
+#[cfg(test)]
 mod handed;
+mod panel;
 mod tally;

@@ -8,12 +8,14 @@ use cm_blocks::{Ending, Grammar};
 use cm_files::OneDirectory;
 use cm_hooks::NoRules;
 use cm_io::{Put, Sink};
-use cm_run::{Application, Mode, Stop};
+use cm_run::{Application, Mode, Own, Stop};
 use cm_state::{Prompt, Session};
+use eg_template::grammar::SumGrammar;
 
 // The lines that wait are empty.
 #[derive(Drop)]
 pub(crate) struct Tally {
+    pub(crate) grammar: Own<SumGrammar>,
     pub(crate) names: OneDirectory,
     pub(crate) waits: u64,
 }
@@ -39,6 +41,10 @@ impl Application for Tally {
 
     ghost means = { tally_semantics };
 
+    fn grammar(&self) -> &Grammar {
+        self.grammar.lend()
+    }
+
     fn names(&self) -> &OneDirectory {
         &self.names
     }
@@ -60,7 +66,6 @@ impl Application for Tally {
     fn obey_line<S: Sink>(
         &mut self,
         session: &Session,
-        _grammar: &Grammar,
         _moment: u64,
         screen: &mut S,
     ) -> Result<(), Stop> {
@@ -93,7 +98,6 @@ impl Application for Tally {
     fn obey_file_line<S: Sink>(
         &mut self,
         session: &Session,
-        _grammar: &Grammar,
         _moment: u64,
         screen: &mut S,
     ) -> Result<(), Stop> {

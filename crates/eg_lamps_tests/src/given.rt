@@ -2,14 +2,12 @@
 ghost use Rattle.std.specs.Prelude.{◌≡◌, ◌≤◌, length};
 ghost use Rattle.cm_text.specs.declared.text.TheConstants.{LINE_LIMIT};
 ghost use Rattle.cm_hooks.specs.Meanings.{held_meanings};
-ghost use Rattle.eg_lamps.specs.Graph.{lamp_graph};
 ghost use Rattle.eg_lamps.specs.Lamps.{lamp_meanings};
 
-use cm_blocks::Grammar;
 use cm_hooks::{Answer, Callbacks, Hook, Hooks, Rules, StoredRules, Tail};
 use cm_io::{Got, MemSink, MemSource, NoMemory, Sink, Source};
-use cm_run::{Stop, run_over_streams};
-use eg_lamps::grammar::grammar;
+use cm_run::{Own, Stop, run_over_streams};
+use eg_lamps::grammar::LampGrammar;
 use eg_lamps::{Program, RoomRules};
 use std::test::Fail;
 
@@ -90,7 +88,7 @@ pub(crate) fn run_lamps<K: Source, S: Sink>(
     screen: &mut S,
 ) -> Result<End, NoMemory> {
     let alloc = rt.alloc();
-    let grammar = grammar(alloc)?;
+    let grammar = Own::new(alloc)?;
     let verdict = |atom: &[u8]| -> Answer
         requires { length atom.now ≤ LINE_LIMIT }
     { RoomRules.verdict(0, atom) };
@@ -106,7 +104,7 @@ pub(crate) fn run_lamps<K: Source, S: Sink>(
     );
     let mut hooks: Hooks<RoomRules> = Hooks::new();
     match hooks.push(hook) {
-        Ok(()) => Ok(run_stored(rt, &grammar, hooks.lend(), keys, screen)),
+        Ok(()) => Ok(run_stored(rt, grammar, hooks.lend(), keys, screen)),
         Err(_) => unreachable!(),
     }
 }
@@ -114,12 +112,11 @@ pub(crate) fn run_lamps<K: Source, S: Sink>(
 // Runs the program over stored functions.
 fn run_stored<H: Callbacks, K: Source, S: Sink>(
     rt: &HostRuntime,
-    grammar: &Grammar,
+    grammar: Own<LampGrammar>,
     hooks: H,
     keys: &mut K,
     screen: &mut S,
 ) -> End
-    requires grammar { grammar.now ≡ lamp_graph }
     requires ties { H.ties hooks }
     requires rooms { held_meanings (H.count hooks) H.meant ≡ lamp_meanings }
 {
@@ -129,16 +126,15 @@ fn run_stored<H: Callbacks, K: Source, S: Sink>(
 // Runs the program over any rules that read a room.
 fn run_over<R: Rules + Drop, K: Source, S: Sink>(
     rt: &HostRuntime,
-    grammar: &Grammar,
+    grammar: Own<LampGrammar>,
     rules: R,
     keys: &mut K,
     screen: &mut S,
 ) -> End
-    requires grammar { grammar.now ≡ lamp_graph }
     requires rooms { R.meanings rules ≡ lamp_meanings }
 {
-    let mut program = Program::new(rules);
-    let result = run_over_streams(rt, &mut program, grammar, keys, screen);
+    let mut program = Program::new(grammar, rules);
+    let result = run_over_streams(rt, &mut program, keys, screen);
     let [hall, kitchen, stairs, study] = &program.lamps;
     End {
         result,

@@ -5,7 +5,6 @@ use cm_blocks::Steps;
 use cm_io::{Got, MemSink, MemSource, NoMemory, Sink, Source};
 use cm_run::{Stop, run_line_program};
 use eg_router::Router;
-use eg_router::grammar::grammar;
 use std::marker::Brand;
 use std::sync::ledger::{Blank, Ledger};
 use std::test::Fail;
@@ -27,7 +26,7 @@ pub(crate) fn outcome_of(
     room: u32,
 ) -> Result<Outcome, NoMemory> {
     let alloc = runtime.alloc();
-    let mut router = Router::new();
+    let mut router = Router::new(alloc)?;
     let mut source = MemSource::new(alloc, keys, failing_get)?;
     let mut screen = MemSink::new(alloc, room)?;
     let result = run_program::<MemSource, MemSink, Brand>(
@@ -69,7 +68,7 @@ pub(crate) fn try_cases(runtime: &HostRuntime, cases: &[(&[u8], &[u8])]) -> Resu
     Ok(())
 }
 
-// Makes the grammar and the counter of trials, and runs the program, as its `main` does.
+// Makes the counter of trials, and runs the program.
 pub(crate) fn run_program<K: Source, S: Sink, L: Ledger>(
     rt: &HostRuntime,
     blank: Blank,
@@ -81,9 +80,6 @@ pub(crate) fn run_program<K: Source, S: Sink, L: Ledger>(
     requires parts { blank.parts ≡ L.parts }
     requires some { 0 < L.parts }
 {
-    let Ok(grammar) = grammar(rt.alloc()) else {
-        return Err(Stop::Memory);
-    };
     let mut steps: Steps<L> = Steps::new(rt, blank);
-    run_line_program(router, &grammar, keys, screen, &mut steps)
+    run_line_program(router, keys, screen, &mut steps)
 }
