@@ -1,5 +1,5 @@
 // What one key of a run does.
-ghost use Rattle.std.specs.Prelude.{◌≡◌, ◌≢◌, Err, ◌+◌, ℕ, List, None, Ok, IsTrue, true, false};
+ghost use Rattle.std.specs.Prelude.{◌≡◌, ◌≢◌, Err, ◌+◌, ℕ, List, Ok, IsTrue, true, false};
 ghost use Rattle.cm_io.specs.Fault.{PutCause};
 ghost use Rattle.cm_io.specs.Contents.{Adds, Contents};
 ghost use Rattle.cm_io.specs.Writer.{Writes};

@@ -1,5 +1,5 @@
 // Where a line begins, and what a line that is confirmed does.
-ghost use Rattle.std.specs.Prelude.{◌≡◌, ◌≢◌, Err, ◌≤◌, ◌<◌, ◌+◌, ℕ, List, [], length, None, is_some};
+ghost use Rattle.std.specs.Prelude.{◌≡◌, ◌≢◌, Err, ◌≤◌, ◌<◌, ◌+◌, ℕ, List, [], length, is_some};
 ghost use Rattle.cm_text.specs.Text.{IsLine, finished};
 ghost use Rattle.cm_io.specs.Contents.{Contents};
 ghost use Rattle.cm_blocks.specs.KeptParse.{cost};

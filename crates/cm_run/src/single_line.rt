@@ -1,5 +1,5 @@
 // A line that is handed in.
-ghost use Rattle.std.specs.Prelude.{◌≡◌, ◌≢◌, ◌≤◌, ℕ, List, Err, None, Some};
+ghost use Rattle.std.specs.Prelude.{◌≢◌, ◌≤◌, ℕ, List, Err, Some};
 ghost use Rattle.cm_text.specs.Text.{IsLine};
 ghost use Rattle.cm_io.specs.Contents.{Contents};
 ghost use Rattle.cm_run.specs.Cause.{ObeyCause};
