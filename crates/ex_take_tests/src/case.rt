@@ -5,13 +5,11 @@
 // bars between. `take NAME` asks `take` for a file, `keys TEXT` runs the engine over keys, and `lines` takes the lines
 // that wait. The steps are done in order, with the EXEC as the one before left it.
 ghost use Rattle.std.specs.Prelude.{◌≡◌, ◌<◌};
-ghost use Rattle.ex_grammar.specs.Graph.{exec_graph};
 
 use crate::files::{cut, exec_of, has, place, shown_as};
-use cm_blocks::{Grammar, Steps};
+use cm_blocks::Steps;
 use cm_io::{CountSink, MemSink, MemSource, NoMemory};
 use cm_run::{Application, NoClock, Stop, run, run_lines};
-use ex_grammar::grammar;
 use ex_store::Place;
 use ex_take::{Exec, Took, take};
 use std::alloc::{AllocError, Global};
@@ -45,17 +43,13 @@ fn outside_of(alloc: Global, keys: &str, room: u32) -> Result<Outside, NoMemory>
 fn run_keys<A: Application, L: Ledger>(
     app: &mut A,
     outside: &mut Outside,
-    grammar: &Grammar,
     steps: &mut Steps<L>,
-) -> Result<(), Stop>
-    requires { grammar.now ≡ A.means.graph }
-{
+) -> Result<(), Stop> {
     let mut log = CountSink::new();
     run(
         100,
         false,
         app,
-        grammar,
         &mut outside.keys,
         &mut outside.screen,
         &mut log,
@@ -69,18 +63,15 @@ fn take_file<L: Ledger>(
     exec: &mut Exec,
     file: &Place,
     screen: &mut MemSink,
-    grammar: &Grammar,
     steps: &mut Steps<L>,
-) -> Answer
-    requires { grammar.now ≡ exec_graph }
-{
+) -> Answer {
     if !exec.is_at_rest() {
         return Answer::None;
     }
     if !has(exec.store(), &file.directory) {
         return Answer::None;
     }
-    Answer::Took(take(exec, file, 0, grammar, screen, steps))
+    Answer::Took(take(exec, file, 0, screen, steps))
 }
 
 // What is answered to a step.
@@ -89,19 +80,16 @@ fn answer_of<L: Ledger>(
     step: &str,
     name: &str,
     outside: &mut Outside,
-    grammar: &Grammar,
     steps: &mut Steps<L>,
-) -> Answer
-    requires { grammar.now ≡ exec_graph }
-{
+) -> Answer {
     if step == "take" {
         let file = place(name);
-        return take_file(exec, &file, &mut outside.screen, grammar, steps);
+        return take_file(exec, &file, &mut outside.screen, steps);
     }
     if step == "keys" {
-        return Answer::Ended(run_keys(exec, outside, grammar, steps));
+        return Answer::Ended(run_keys(exec, outside, steps));
     }
-    Answer::Ended(run_lines(exec, grammar, 0, &mut outside.screen, steps))
+    Answer::Ended(run_lines(exec, 0, &mut outside.screen, steps))
 }
 
 // An answer, as a case writes it.
@@ -134,16 +122,13 @@ fn try_step<L: Ledger>(
     alloc: Global,
     exec: &mut Exec,
     line: &str,
-    grammar: &Grammar,
     steps: &mut Steps<L>,
-) -> Result<(), Fail>
-    requires { grammar.now ≡ exec_graph }
-{
+) -> Result<(), Fail> {
     let (asked, rest) = cut(line);
     let (room, wanted) = cut(rest);
     let (step, text) = asked.split_once(' ').unwrap_or((asked, ""));
     let mut outside = outside_of(alloc, text, room.parse().unwrap_or(0))?;
-    let answer = answer_of(exec, step, text, &mut outside, grammar, steps);
+    let answer = answer_of(exec, step, text, &mut outside, steps);
     compare(alloc, line, wanted, answer, outside.screen.bytes())
 }
 
@@ -156,73 +141,40 @@ fn try_steps<L: Ledger>(
     alloc: Global,
     exec: &mut Exec,
     case: &str,
-    grammar: &Grammar,
     steps: &mut Steps<L>,
-) -> Result<(), Fail>
-    requires { grammar.now ≡ exec_graph }
-{
+) -> Result<(), Fail> {
     for line in case.lines() {
         if is_step(line) {
-            try_step(alloc, exec, line, grammar, steps)?;
+            try_step(alloc, exec, line, steps)?;
         }
     }
     Ok(())
 }
 
-fn try_case<L: Ledger>(
-    alloc: Global,
-    case: &str,
-    grammar: &Grammar,
-    steps: &mut Steps<L>,
-) -> Result<(), Fail>
-    requires { grammar.now ≡ exec_graph }
-{
+fn try_case<L: Ledger>(alloc: Global, case: &str, steps: &mut Steps<L>) -> Result<(), Fail> {
     let mut exec = exec_of(alloc, case)?;
-    try_steps(alloc, &mut exec, case, grammar, steps)
+    try_steps(alloc, &mut exec, case, steps)
 }
 
-fn try_all<L: Ledger>(
-    alloc: Global,
-    cases: &str,
-    grammar: &Grammar,
-    steps: &mut Steps<L>,
-) -> Result<(), Fail>
-    requires { grammar.now ≡ exec_graph }
-{
+fn try_all<L: Ledger>(alloc: Global, cases: &str, steps: &mut Steps<L>) -> Result<(), Fail> {
     for case in cases.split("\n\n") {
-        try_case(alloc, case, grammar, steps)?;
+        try_case(alloc, case, steps)?;
     }
     Ok(())
 }
 
 // Makes the counter, and tries the cases.
-fn try_counted<L: Ledger>(
-    rt: &HostRuntime,
-    blank: Blank,
-    cases: &str,
-    grammar: &Grammar,
-) -> Result<(), Fail>
-    requires name { blank.name ≡ L.name }
-    requires parts { blank.parts ≡ L.parts }
-    requires some { 0 < L.parts }
-    requires grammar { grammar.now ≡ exec_graph }
-{
-    let mut steps: Steps<L> = Steps::new(rt, blank);
-    try_all(rt.alloc(), cases, grammar, &mut steps)
-}
-
-// Makes the grammar, and tries the cases.
-fn try_with_grammar<L: Ledger>(rt: &HostRuntime, blank: Blank, cases: &[u8]) -> Result<(), Fail>
+fn try_counted<L: Ledger>(rt: &HostRuntime, blank: Blank, cases: &[u8]) -> Result<(), Fail>
     requires name { blank.name ≡ L.name }
     requires parts { blank.parts ≡ L.parts }
     requires some { 0 < L.parts }
 {
     let cases = str::from_utf8(cases)?;
-    let grammar = grammar(rt.alloc())?;
-    try_counted::<L>(rt, blank, cases, &grammar)
+    let mut steps: Steps<L> = Steps::new(rt, blank);
+    try_all(rt.alloc(), cases, &mut steps)
 }
 
 /// Does the steps of each case, and fails where something is not as it is said.
 pub(crate) fn try_cases(rt: &HostRuntime, cases: &str) -> Result<(), Fail> {
-    try_with_grammar::<Brand>(rt, Blank::new(1), cases.as_bytes())
+    try_counted::<Brand>(rt, Blank::new(1), cases.as_bytes())
 }

@@ -3,13 +3,11 @@
 // What must stand is the trace of the whole, cut where a put fails, and the EXEC is at rest after it. The screen fails
 // in one put alone, and would take what is put after it.
 ghost use Rattle.std.specs.Prelude.{◌≡◌, ◌<◌};
-ghost use Rattle.ex_grammar.specs.Graph.{exec_graph};
 
 use crate::files::{exec_of, has, place};
-use cm_blocks::{Grammar, Steps};
+use cm_blocks::Steps;
 use cm_io::{MemHost, NoMemory};
 use cm_io_tests::{Faults, Part, PartSink, Stop, stands_at};
-use ex_grammar::grammar;
 use ex_image::encode;
 use ex_store::Store;
 use ex_take::{Exec, Took, take};
@@ -56,11 +54,8 @@ fn saved(alloc: Global, store: &Store) -> Result<MemHost, NoMemory> {
 fn take_first<L: Ledger>(
     exec: &mut Exec,
     screen: &mut PartSink,
-    grammar: &Grammar,
     steps: &mut Steps<L>,
-) -> Option<Took>
-    requires { grammar.now ≡ exec_graph }
-{
+) -> Option<Took> {
     let file = place("A.CMD");
     if !exec.is_at_rest() {
         return None;
@@ -68,21 +63,18 @@ fn take_first<L: Ledger>(
     if !has(exec.store(), &file.directory) {
         return None;
     }
-    Some(take(exec, &file, 0, grammar, screen, steps))
+    Some(take(exec, &file, 0, screen, steps))
 }
 
 fn outcome_of<L: Ledger>(
     alloc: Global,
     put: Option<usize>,
     part: Part,
-    grammar: &Grammar,
     steps: &mut Steps<L>,
-) -> Result<Outcome, Fail>
-    requires { grammar.now ≡ exec_graph }
-{
+) -> Result<Outcome, Fail> {
     let mut exec = exec_of(alloc, FILES)?;
     let mut screen = PartSink::new(alloc, 4096, put, part)?;
-    let took = take_first(&mut exec, &mut screen, grammar, steps);
+    let took = take_first(&mut exec, &mut screen, steps);
     Ok(Outcome {
         took,
         is_at_rest: exec.is_at_rest(),
@@ -119,12 +111,9 @@ fn try_put<L: Ledger>(
     put: usize,
     part: Part,
     whole: &Outcome,
-    grammar: &Grammar,
     steps: &mut Steps<L>,
-) -> Result<(), Fail>
-    requires { grammar.now ≡ exec_graph }
-{
-    let outcome = outcome_of(alloc, Some(put), part, grammar, steps)?;
+) -> Result<(), Fail> {
+    let outcome = outcome_of(alloc, Some(put), part, steps)?;
     if is_cut(alloc, &outcome, whole.screen.held_after(put, part))? {
         return Ok(());
     }
@@ -137,49 +126,26 @@ fn try_put<L: Ledger>(
 }
 
 // With each put failing, and with one that is not made.
-fn try_puts<L: Ledger>(
-    alloc: Global,
-    part: Part,
-    grammar: &Grammar,
-    steps: &mut Steps<L>,
-) -> Result<(), Fail>
-    requires { grammar.now ≡ exec_graph }
-{
-    let whole = outcome_of(alloc, None, part, grammar, steps)?;
+fn try_puts<L: Ledger>(alloc: Global, part: Part, steps: &mut Steps<L>) -> Result<(), Fail> {
+    let whole = outcome_of(alloc, None, part, steps)?;
     for put in 0..whole.screen.puts().saturating_add(1) {
-        try_put(alloc, put, part, &whole, grammar, steps)?;
+        try_put(alloc, put, part, &whole, steps)?;
     }
     Ok(())
 }
 
-// Makes the rules and the counter.
-fn try_counted<L: Ledger>(
-    rt: &HostRuntime,
-    blank: Blank,
-    part: Part,
-    grammar: &Grammar,
-) -> Result<(), Fail>
+// Makes the counter.
+fn try_counted<L: Ledger>(rt: &HostRuntime, blank: Blank, part: Part) -> Result<(), Fail>
     requires name { blank.name ≡ L.name }
     requires parts { blank.parts ≡ L.parts }
     requires some { 0 < L.parts }
-    requires grammar { grammar.now ≡ exec_graph }
 {
     let mut steps: Steps<L> = Steps::new(rt, blank);
-    try_puts(rt.alloc(), part, grammar, &mut steps)
-}
-
-// Makes the grammar.
-fn try_with_grammar<L: Ledger>(rt: &HostRuntime, blank: Blank, part: Part) -> Result<(), Fail>
-    requires name { blank.name ≡ L.name }
-    requires parts { blank.parts ≡ L.parts }
-    requires some { 0 < L.parts }
-{
-    let grammar = grammar(rt.alloc())?;
-    try_counted::<L>(rt, blank, part, &grammar)
+    try_puts(rt.alloc(), part, &mut steps)
 }
 
 fn try_part(rt: &HostRuntime, part: Part) -> Result<(), Fail> {
-    try_with_grammar::<Brand>(rt, Blank::new(1), part)
+    try_counted::<Brand>(rt, Blank::new(1), part)
 }
 
 #[test]

@@ -4,6 +4,7 @@ ghost use Rattle.ex_store.specs.State.{has_directory};
 
 use cm_fields::Gen;
 use cm_files::Flags;
+use cm_run::Own;
 use cm_text::{NAME_LIMIT, Name};
 use ex_image::decode;
 use ex_store::{Place, Store};
@@ -65,7 +66,7 @@ fn image_of(alloc: Global, case: &str) -> Result<Vec<u8>, AllocError> {
 pub(crate) fn exec_of(alloc: Global, case: &str) -> Result<Exec, Fail> {
     let image = image_of(alloc, case)?;
     let store = decode(alloc, &image).ok().ok_or("the image is bad")?;
-    Ok(Exec::new(alloc, store))
+    Ok(Exec::new(alloc, Own::new(alloc)?, store))
 }
 
 // A name, or none at all where it is too long for one.

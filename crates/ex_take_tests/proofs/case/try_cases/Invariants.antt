@@ -1,5 +1,5 @@
 use Rattle.ex_take_tests.proofs.case.try_cases.Given as goal
 
 -- the ledger that was just opened
-abbrev pub ghosts-try_with_grammar : goal.ghosts-try_with_grammar
-ghosts-try_with_grammar a = record { name = a.blank.name; parts = a.blank.parts }
+abbrev pub ghosts-try_counted : goal.ghosts-try_counted
+ghosts-try_counted a = record { name = a.blank.name; parts = a.blank.parts }
