@@ -1,13 +1,11 @@
 // The calls that take memory, with enough of it: a control file is read, and its lines are run.
 ghost use Rattle.std.specs.Prelude.{◌≡◌, ◌<◌};
-ghost use Rattle.ex_batch.specs.Job.{job_semantics};
 
 use crate::notation::push_said;
-use cm_blocks::{Grammar, Steps};
+use cm_blocks::Steps;
 use cm_io::{MemClock, MemSink, NoMemory};
-use cm_run::Stop;
+use cm_run::{Own, Stop};
 use ex_batch::{ControlFile, Ended, Job, is_label_name, run_batch};
-use ex_grammar::grammar;
 use ex_store::Store;
 use std::alloc::{AllocError, Global};
 use std::marker::Brand;
@@ -49,37 +47,26 @@ fn run_over<L: Ledger>(
     rt: &HostRuntime,
     blank: Blank,
     file: &ControlFile,
-    grammar: &Grammar,
     job: &mut Job,
     screen: &mut MemSink,
     clock: &mut MemClock,
 ) -> Result<Ended, Stop>
-    requires grammar { grammar.now ≡ job_semantics.graph }
     requires name { blank.name ≡ L.name }
     requires parts { blank.parts ≡ L.parts }
     requires some { 0 < L.parts }
 {
     let mut steps: Steps<L> = Steps::new(rt, blank);
-    run_batch(file, job, grammar, screen, clock, &mut steps)
+    run_batch(file, job, screen, clock, &mut steps)
 }
 
 // How the run over these bytes ends, and its screen.
 fn outcome_of(rt: &HostRuntime, bytes: &[u8]) -> Result<(Result<Ended, Stop>, MemSink), NoMemory> {
     let alloc = rt.alloc();
     let file = ControlFile::read(alloc, bytes)?;
-    let grammar = grammar(alloc)?;
-    let mut job = Job::new(alloc, Store::new(alloc)?);
+    let mut job = Job::new(alloc, Own::new(alloc)?, Store::new(alloc)?);
     let mut screen = MemSink::new(alloc, 4096)?;
     let mut clock = MemClock::new(alloc, &[1])?;
-    let ended = run_over::<Brand>(
-        rt,
-        Blank::new(1),
-        &file,
-        &grammar,
-        &mut job,
-        &mut screen,
-        &mut clock,
-    );
+    let ended = run_over::<Brand>(rt, Blank::new(1), &file, &mut job, &mut screen, &mut clock);
     Ok((ended, screen))
 }
 
