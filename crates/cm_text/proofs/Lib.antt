@@ -1,3 +1,4 @@
 pub mod Ascii
 pub mod LineBytes
 pub mod LinesLaws
+pub mod SetBits

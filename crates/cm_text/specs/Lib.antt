@@ -1,4 +1,5 @@
 pub mod BeginLaws
+pub mod ByteSets
 pub mod Bytes
 pub mod Case
 pub mod Lines

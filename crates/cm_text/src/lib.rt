@@ -3,6 +3,7 @@
 #![tactic(auto)]
 
 mod alike;
+mod byte_set;
 mod bytes;
 mod case;
 mod digits;
@@ -14,6 +15,7 @@ mod shown;
 mod text;
 
 pub use alike::common_len;
+pub use byte_set::ByteSet;
 pub use bytes::{is_blank, is_line_byte, is_name, is_shown, is_text, is_word};
 pub use case::{begins_with, equals};
 pub use digits::{DIGIT_LIMIT, decimal_digits};
