@@ -1,10 +1,12 @@
--- Numbers and words, each a run of word bytes (.CMNUM, .CMFLD).
-use Rattle.std.specs.Prelude.{ℕ, ◌&&◌, ◌==◌, nat_lt, nat_le, if◌then◌else◌, List, length, Result, Ok, Err}
+-- Numbers and words, each a run of word bytes (.CMNUM, .CMFLD), and runs of other bytes (.CMFLD with .CMBRK).
+use Rattle.std.specs.Prelude.{ℕ, Bool, not, ◌&&◌, ◌==◌, nat_lt, nat_le, if◌then◌else◌, List, length, Result, Ok, Err}
 use Rattle.std.specs.Char.{is_ascii_digit}
 use Rattle.std.specs.List.{list_all}
 use Rattle.std.specs.Str.Parse.{digits_value}
 use Rattle.cm_text.specs.Bytes.{is_word}
+use Rattle.cm_text.specs.ByteSets.{has_byte}
 use Rattle.cm_text.specs.declared.name.TheConstants.{NAME_LIMIT}
+use Rattle.cm_text.specs.declared.text.TheConstants.{JOIN}
 use Rattle.cm_fields.specs.declared.digits.TheConstants.{NUMBER_LIMIT}
 use Rattle.cm_fields.specs.declared.code.Code.{Code}
 use Rattle.cm_fields.specs.declared.code.Code.TheVariants.{BadNumber, NumberRange, NoField, FieldLong}
@@ -31,3 +33,15 @@ word_of at run =
 
 abbrev pub word : List ℕ → ℕ → Try
 word rest at = by_run is_word (word_of at) rest at
+
+-- no byte of a set ends a line, continues it, or asks for help, so that a field may have each
+abbrev pub may_be_field : ℕ → Bool
+may_be_field set = not (has_byte set 13) && not (has_byte set JOIN) && not (has_byte set 63)
+
+-- at least one byte, from this place on
+unfoldable pub run_of : ℕ → List ℕ → Result Value Code
+run_of at run = if length run == 0 then Err NoField else Ok (Word (span at (length run)))
+
+-- a run of the bytes of a set
+abbrev pub run_field : ℕ → List ℕ → ℕ → Try
+run_field set rest at = by_run (has_byte set) (run_of at) rest at

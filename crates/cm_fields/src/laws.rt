@@ -1,5 +1,6 @@
 //! Laws of the field functions.
 ghost use Rattle.std.specs.Prelude.{◌≡◌, ℕ, ◌<◌, Bool, List, ◌++◌, drop, length, None, Some, false, true};
+ghost use Rattle.cm_text.specs.ByteSets.{has_byte};
 ghost use Rattle.cm_fields.specs.Code.{code_number, code_text, is_own};
 ghost use Rattle.cm_fields.specs.Finish.{DecidesFinished, has_no_end};
 ghost use Rattle.cm_fields.specs.Local.{IsLocal};
@@ -8,7 +9,7 @@ ghost use Rattle.cm_fields.specs.BeforeField.{IsOpen, IsPast};
 ghost use Rattle.cm_fields.specs.Phrase.{noise, token};
 ghost use Rattle.cm_fields.specs.Quoted.{quoted};
 ghost use Rattle.cm_fields.specs.Reason.{is_reason_text};
-ghost use Rattle.cm_fields.specs.Run.{number, word};
+ghost use Rattle.cm_fields.specs.Run.{number, run_field, word};
 ghost use Rattle.cm_fields.specs.Skip.{skip};
 ghost use Rattle.cm_fields.specs.Text.{text_field};
 ghost use Rattle.cm_fields.specs.declared.code.Code.{Code};
@@ -22,6 +23,7 @@ pub fn trials_are_local()
     ensures token { (phrase : List ℕ) → IsLocal (token phrase) }
     ensures number { IsLocal number }
     ensures word { IsLocal word }
+    ensures run { (set : ℕ) → IsLocal (run_field set) }
     ensures quoted { IsLocal quoted }
     ensures text { IsLocal text_field }
     ensures comma { IsLocal comma }
@@ -53,6 +55,7 @@ pub fn finished_texts_are_decided()
     ensures token { (phrase : List ℕ) → has_no_end phrase ≡ true → DecidesFinished (token phrase) }
     ensures number { DecidesFinished number }
     ensures word { DecidesFinished word }
+    ensures run { (set : ℕ) → has_byte set 13 ≡ false → DecidesFinished (run_field set) }
     ensures quoted { DecidesFinished quoted }
     ensures text { DecidesFinished text_field }
     ensures comma { DecidesFinished comma }

@@ -21,7 +21,7 @@ pub use mark::{comma, confirm};
 pub use phrase::{noise, token};
 pub use quotes::{quoted, unquoted};
 pub use reason::{OWN_NUMBER, Reason};
-pub use run::{number, word, word_run};
+pub use run::{may_be_field, number, run_field, word, word_run};
 pub use skipped::skip;
 pub use text::text_field;
 pub use trial::{Try, said, span_of};

@@ -70,7 +70,7 @@ pub enum Value {
     Noise(bool),
     /// A decimal number (.CMNUM), at most 34,359,738,367.
     Number(u64),
-    /// A word (.CMFLD).
+    /// A word, or a run of the bytes of a set (.CMFLD).
     Word(Span),
     /// A quoted text (.CMQST), without its outer quotes; a quote inside stands twice.
     Quoted(Span),

@@ -1,6 +1,7 @@
 use Rattle.std.proofs.Common.{refl}
 use Rattle.cm_text.specs.Bytes.{is_word}
-use Rattle.cm_fields.specs.Run.{number_of, word_of}
+use Rattle.cm_text.specs.ByteSets.{has_byte}
+use Rattle.cm_fields.specs.Run.{number_of, run_of, word_of}
 use Rattle.cm_fields.specs.Text.{is_inside, text_of}
 use Rattle.cm_fields.proofs.LineEnds.{comma_decides, confirm_decides, noise_decides, quoted_decides, run_decides, token_decides}
 use Rattle.cm_fields.proofs.laws.finished_texts_are_decided.Goals as goal
@@ -18,6 +19,9 @@ returns-clause-number c = run_decides is_word (λ at. number_of) refl
 pub returns-clause-word : goal.returns-clause-word
 unfolding is_word
 returns-clause-word c = run_decides is_word word_of refl
+
+pub returns-clause-run : goal.returns-clause-run
+returns-clause-run c set outside = run_decides (has_byte set) run_of outside
 
 pub returns-clause-quoted : goal.returns-clause-quoted
 returns-clause-quoted c = quoted_decides

@@ -1,5 +1,6 @@
 use Rattle.cm_text.specs.Bytes.{is_word}
-use Rattle.cm_fields.specs.Run.{number_of, word_of}
+use Rattle.cm_text.specs.ByteSets.{has_byte}
+use Rattle.cm_fields.specs.Run.{number_of, run_of, word_of}
 use Rattle.cm_fields.specs.Text.{is_inside, text_of}
 use Rattle.cm_fields.proofs.Marks.{comma_is_local, confirm_is_local}
 use Rattle.cm_fields.proofs.Phrases.{noise_is_local, token_is_local}
@@ -18,6 +19,9 @@ returns-clause-number c = run_is_local is_word (λ at. number_of)
 
 pub returns-clause-word : goal.returns-clause-word
 returns-clause-word c = run_is_local is_word word_of
+
+pub returns-clause-run : goal.returns-clause-run
+returns-clause-run c set = run_is_local (has_byte set) run_of
 
 pub returns-clause-quoted : goal.returns-clause-quoted
 returns-clause-quoted c = quoted_is_local
