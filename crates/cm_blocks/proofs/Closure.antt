@@ -1,12 +1,14 @@
 -- The parse of a finished text is decided.
-use Rattle.std.proofs.Common.{◌≡◌, ℕ, zero, suc, ◌+◌, ◌<◌, ◌≤◌, Bool, true, not, ◌==◌, ◌&&◌, nat_le, List, [], ◌∷◌, length, drop, take, Option, Some, None, unwrap_or, slice_get, Result, Ok, Err, refl, ap, sym, subst, ◌∙◌, arith, length-drop}
-use Rattle.std.proofs.lemmas.Bool.{and_parts, cond_both}
+use Rattle.std.proofs.Common.{◌≡◌, ℕ, zero, suc, ◌+◌, ◌<◌, ◌≤◌, Bool, true, false, not, ◌==◌, ◌&&◌, nat_le, List, [], ◌∷◌, length, drop, take, Option, Some, None, unwrap_or, slice_get, Result, Ok, Err, refl, ap, sym, subst, ◌∙◌, arith, length-drop}
+use Rattle.std.proofs.lemmas.Bool.{and_parts, cond_both, not-true}
 use Rattle.std.specs.List.{All, prefix_len}
 use Rattle.std.proofs.lemmas.Bool.Decides.{nat_tests}
 use Rattle.std.proofs.lemmas.List.{drop-append-le}
 use Rattle.cm_lists.proofs.Bools.{cond_each}
 use Rattle.cm_text.specs.Bytes.{is_name, is_shown, is_shown_byte, is_word}
+use Rattle.cm_text.specs.ByteSets.{has_byte, is_empty}
 use Rattle.cm_text.specs.Text.{finished}
+use Rattle.cm_text.specs.declared.text.TheConstants.{JOIN}
 use Rattle.cm_tables.specs.declared.entry.Entry.{Entry}
 use Rattle.cm_dates.specs.Date.{date_of}
 use Rattle.cm_fields.specs.declared.code.Code.{Code}
@@ -16,7 +18,7 @@ use Rattle.cm_fields.specs.declared.trial.Try.TheVariants.{Accept, Refuse, More}
 use Rattle.cm_fields.specs.declared.value.FileKind.TheVariants.{In, Out, Any}
 use Rattle.cm_fields.specs.Finish.{Decides, DecidesFinished, has_no_end}
 use Rattle.cm_fields.specs.Phrase.{same_letter}
-use Rattle.cm_fields.specs.Run.{number_of, word_of}
+use Rattle.cm_fields.specs.Run.{may_be_field, number_of, run_of, word_of}
 use Rattle.cm_fields.specs.Text.{is_inside, text_of}
 use Rattle.cm_fields.proofs.LineEnds.{comma_decides, confirm_decides, mark_inside, noise_decides, not_all, quoted_decides, run_decides, run_finishes, token_decides}
 use Rattle.cm_fields.proofs.Skips.{skip_finds}
@@ -29,11 +31,11 @@ use Rattle.cm_blocks.specs.declared.field.Chain.{Chain}
 use Rattle.cm_blocks.specs.declared.field.Chain.TheVariants as chain
 use Rattle.cm_blocks.specs.declared.field.TheConstants.{FIELD_LIMIT}
 use Rattle.cm_blocks.specs.declared.function.Function.{Function}
-use Rattle.cm_blocks.specs.declared.function.Function.TheVariants.{Key, Switch, Noise, Number, Word, Quoted, Token, Date, User, Directory, InFile, OutFile, AnyFile, Text, Comma, Confirm, Hook}
+use Rattle.cm_blocks.specs.declared.function.Function.TheVariants.{Key, Switch, Noise, Number, Word, Run, Quoted, Token, Date, User, Directory, InFile, OutFile, AnyFile, Text, Comma, Confirm, Hook}
 use Rattle.cm_blocks.specs.declared.node.Block.{Block}
 use Rattle.cm_blocks.specs.declared.node.Node.{Node}
 use Rattle.cm_blocks.specs.Chain.{Counted, at_node, by_default, chain_at, default_place, default_rest, defaulted, is_confirm, is_line_end, on_default, on_text, or_later, past_skip, typed, walk}
-use Rattle.cm_blocks.specs.Fault.{grammar_fault, has_phrase}
+use Rattle.cm_blocks.specs.Fault.{grammar_fault, has_phrase, may_read}
 use Rattle.cm_blocks.specs.Grammar.{Graph}
 use Rattle.cm_blocks.specs.Keyword.{after_slash, entry_position, has_colon, key_value, named_switch, switch}
 use Rattle.cm_blocks.specs.Parse.{IsClosed, Parse, after_chain, ending_of, parse_from, parse_of}
@@ -79,27 +81,32 @@ shown_has_no_end (byte ∷ phrase) shown =
     let both = and_parts (is_shown_byte byte) _ shown in
     rw (shown_differs byte both.0) (shown_has_no_end phrase both.1)
 
+-- what a field may have is not the end of the line
+has_no_cr : (set : ℕ) → may_be_field set ≡ true → has_byte set 13 ≡ false
+has_no_cr set may = not-true _ (and_parts _ (not (has_byte set JOIN)) (and_parts _ (not (has_byte set 63)) may).0).0
+
 trial_decides : (s : Setting) (function : Function) (flags : Flags) → has_phrase function ≡ true
-    → DecidesFinished (trial s function flags)
+    → may_read function ≡ true → DecidesFinished (trial s function flags)
 unfolding trial is_word is_name
-trial_decides s (Key table) flags phrase =
+trial_decides s (Key table) flags phrase bytes =
     run_decides is_word (λ at run. key_value (table_of s.graph table) (entry_position (table_of s.graph table) run)) refl
-trial_decides s (Switch table) flags phrase = switch_decides (table_of s.graph table)
-trial_decides s (Noise text) flags phrase = noise_decides text
-trial_decides s Number flags phrase = run_decides is_word (λ at. number_of) refl
-trial_decides s Word flags phrase = run_decides is_word word_of refl
-trial_decides s Quoted flags phrase = quoted_decides
-trial_decides s (Token text) flags phrase = token_decides text (shown_has_no_end text (and_parts _ (is_shown text) phrase).1)
-trial_decides s Date flags phrase = run_decides is_word (λ at. date_of) refl
-trial_decides s User flags phrase = user_decides s.catalogue
-trial_decides s Directory flags phrase = directory_decides flags.new s.catalogue
-trial_decides s InFile flags phrase = file_decides s.catalogue In flags
-trial_decides s OutFile flags phrase = file_decides s.catalogue Out flags
-trial_decides s AnyFile flags phrase = file_decides s.catalogue Any flags
-trial_decides s Text flags phrase = run_decides is_inside text_of refl
-trial_decides s Comma flags phrase = comma_decides
-trial_decides s Confirm flags phrase = confirm_decides
-trial_decides s (Hook id) flags phrase = run_decides is_name (λ at. hook_of s.meanings.verdict id) refl
+trial_decides s (Switch table) flags phrase bytes = switch_decides (table_of s.graph table)
+trial_decides s (Noise text) flags phrase bytes = noise_decides text
+trial_decides s Number flags phrase bytes = run_decides is_word (λ at. number_of) refl
+trial_decides s Word flags phrase bytes = run_decides is_word word_of refl
+trial_decides s (Run set) flags phrase bytes = run_decides (has_byte set) run_of (has_no_cr set (and_parts (not (is_empty set)) _ bytes).1)
+trial_decides s Quoted flags phrase bytes = quoted_decides
+trial_decides s (Token text) flags phrase bytes = token_decides text (shown_has_no_end text (and_parts _ (is_shown text) phrase).1)
+trial_decides s Date flags phrase bytes = run_decides is_word (λ at. date_of) refl
+trial_decides s User flags phrase bytes = user_decides s.catalogue
+trial_decides s Directory flags phrase bytes = directory_decides flags.new s.catalogue
+trial_decides s InFile flags phrase bytes = file_decides s.catalogue In flags
+trial_decides s OutFile flags phrase bytes = file_decides s.catalogue Out flags
+trial_decides s AnyFile flags phrase bytes = file_decides s.catalogue Any flags
+trial_decides s Text flags phrase bytes = run_decides is_inside text_of refl
+trial_decides s Comma flags phrase bytes = comma_decides
+trial_decides s Confirm flags phrase bytes = confirm_decides
+trial_decides s (Hook id) flags phrase bytes = run_decides is_name (λ at. hook_of s.meanings.verdict id) refl
 
 -- a walk over a finished text wants no more
 abbrev WalkDecides : ℕ → ℕ → Walk → Type 0
@@ -118,7 +125,7 @@ walk_decides : (s : Setting) (line : List ℕ) (at number looked : ℕ) (code : 
 walk_decides s line at number looked code [] well = tt
 walk_decides s line at number looked code (block ∷ more) well =
     or_later_decides s.graph at (length line) number _ block (trial s block.function block.flags (finished line) at) _
-    (trial_decides s block.function block.flags (well 0 block (omega arith)).phrase line at)
+    (trial_decides s block.function block.flags (well 0 block (omega arith)).phrase (well 0 block (omega arith)).bytes line at)
     (walk_decides s line at (number + 1) _ _ more (λ k d below. well (suc k) d (omega arith)))
 
 -- the chain of a node decides on a finished text, and its field does not pass the line

@@ -12,7 +12,7 @@ use Rattle.cm_blocks.specs.declared.field.Chain.TheVariants as chain
 use Rattle.cm_blocks.specs.declared.field.Ending.{Ending}
 use Rattle.cm_blocks.specs.declared.field.TheConstants.{FIELD_LIMIT}
 use Rattle.cm_blocks.specs.declared.function.Function.{Function}
-use Rattle.cm_blocks.specs.declared.function.Function.TheVariants.{Key, Switch, Noise, Number, Word, Quoted, Token, Date, User, Directory, InFile, OutFile, AnyFile, Text, Comma, Confirm, Hook}
+use Rattle.cm_blocks.specs.declared.function.Function.TheVariants.{Key, Switch, Noise, Number, Word, Run, Quoted, Token, Date, User, Directory, InFile, OutFile, AnyFile, Text, Comma, Confirm, Hook}
 use Rattle.cm_blocks.specs.declared.node.Block.{Block}
 use Rattle.cm_blocks.specs.declared.node.Node.{Node}
 use Rattle.cm_blocks.specs.Chain.{at_node, by_default, chain_at, typed, walk}
@@ -100,6 +100,7 @@ trial_wants s (Key table) flags at phrase = refl
 trial_wants s (Switch table) flags at phrase = refl
 trial_wants s Number flags at phrase = refl
 trial_wants s Word flags at phrase = refl
+trial_wants s (Run set) flags at phrase = refl
 trial_wants s Quoted flags at phrase = refl
 trial_wants s Date flags at phrase = refl
 trial_wants s User flags at phrase = refl

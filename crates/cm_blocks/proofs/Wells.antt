@@ -12,7 +12,7 @@ use Rattle.cm_blocks.specs.declared.fault.TheConstants.{BLOCK_LIMIT, NODE_LIMIT}
 use Rattle.cm_blocks.specs.declared.grammar.GrammarFault.{GrammarFault}
 use Rattle.cm_blocks.specs.declared.node.Block.{Block}
 use Rattle.cm_blocks.specs.declared.node.Node.{Node}
-use Rattle.cm_blocks.specs.Fault.{grammar_fault, has_flags, has_phrase, has_size, has_table, has_texts, leads_within, node_fault, nodes_fault, or_fault}
+use Rattle.cm_blocks.specs.Fault.{grammar_fault, has_bytes, has_flags, has_phrase, has_size, has_table, has_texts, leads_within, names_table, node_fault, nodes_fault, or_fault}
 use Rattle.cm_blocks.specs.Grammar.{Graph}
 use Rattle.cm_blocks.specs.Well.{IsWell}
 
@@ -77,9 +77,10 @@ node_none tables count number (first ∷ more) (suc place) node none found =
 record Tests (tables : List (List Entry)) (count : ℕ) (node : Node) : Type 0 where
   some : (length node.chain == 0) ≡ false
   few : nat_lt BLOCK_LIMIT (length node.chain) ≡ false
-  have_tables : list_all (λ (block : Block). has_table tables block.function) node.chain ≡ true
+  have_tables : list_all (names_table tables) node.chain ≡ true
   lead : list_all (leads_within tables count) node.chain ≡ true
   texts : (option_map_or is_shown node.default true && list_all has_texts node.chain) ≡ true
+  bytes : list_all has_bytes node.chain ≡ true
   flags : list_all has_flags node.chain ≡ true
 
 tests : (tables : List (List Entry)) (count number : ℕ) (node : Node) → node_fault tables count number node ≡ None
@@ -87,17 +88,19 @@ tests : (tables : List (List Entry)) (count number : ℕ) (node : Node) → node
 tests tables count number node none =
     let first = fails (length node.chain == 0) _ _ none in
     let second = fails (nat_lt BLOCK_LIMIT (length node.chain)) _ _ first.none in
-    let third = passes (list_all (λ (block : Block). has_table tables block.function) node.chain) _ _ second.none in
+    let third = passes (list_all (names_table tables) node.chain) _ _ second.none in
     let fourth = passes (list_all (leads_within tables count) node.chain) _ _ third.none in
     let fifth = passes (option_map_or is_shown node.default true && list_all has_texts node.chain) _ _ fourth.none in
-    let sixth = passes (list_all has_flags node.chain) _ _ fifth.none in
+    let sixth = passes (list_all has_bytes node.chain) _ _ fifth.none in
+    let seventh = passes (list_all has_flags node.chain) _ _ sixth.none in
     record {
       some = first.failed;
       few = second.failed;
       have_tables = third.passed;
       lead = fourth.passed;
       texts = fifth.passed;
-      flags = sixth.passed;
+      bytes = sixth.passed;
+      flags = seventh.passed;
     }
 
 -- each node of an accepted grammar is well
@@ -117,6 +120,7 @@ well_node graph place node none found =
         leads = AllPass-from_list_all _ node.chain passed.lead k d below;
         phrase = (and_parts (has_phrase (get_or node.chain k d).function) _
             (AllPass-from_list_all has_texts node.chain texts.1 k d below)).0;
+        bytes = AllPass-from_list_all has_bytes node.chain passed.bytes k d below;
       };
     }
 

@@ -3,13 +3,15 @@ use Rattle.std.specs.Prelude.{ℕ, ◌+◌, Bool, true, false, not, ◌&&◌, �
 use Rattle.std.specs.List.{list_all, list_any}
 use Rattle.std.specs.Option.{option_map_or}
 use Rattle.cm_text.specs.Bytes.{is_shown}
+use Rattle.cm_text.specs.ByteSets.{is_empty}
 use Rattle.cm_tables.specs.declared.entry.Entry.{Entry}
+use Rattle.cm_fields.specs.Run.{may_be_field}
 use Rattle.cm_blocks.specs.declared.function.Function.{Function}
-use Rattle.cm_blocks.specs.declared.function.Function.TheVariants.{Key, Switch, Noise, Token, Confirm}
+use Rattle.cm_blocks.specs.declared.function.Function.TheVariants.{Key, Switch, Noise, Run, Token, Confirm}
 use Rattle.cm_blocks.specs.declared.node.Block.{Block}
 use Rattle.cm_blocks.specs.declared.node.Node.{Node}
 use Rattle.cm_blocks.specs.declared.grammar.GrammarFault.{GrammarFault}
-use Rattle.cm_blocks.specs.declared.grammar.GrammarFault.TheVariants.{TooMany, EmptyChain, ChainLong, TableRange, NextRange, BadText, BadFlags, NoConfirm}
+use Rattle.cm_blocks.specs.declared.grammar.GrammarFault.TheVariants.{TooMany, EmptyChain, ChainLong, TableRange, NextRange, BadText, BadBytes, BadFlags, NoConfirm}
 use Rattle.cm_blocks.specs.declared.fault.TheConstants.{NODE_LIMIT, TABLE_LIMIT, BLOCK_LIMIT}
 use Rattle.cm_blocks.specs.Grammar.{Graph}
 
@@ -22,6 +24,9 @@ table_number function = None
 -- the table that it names is there
 abbrev pub has_table : List (List Entry) → Function → Bool
 has_table tables function = option_map_or (λ table. nat_lt table (length tables)) (table_number function) true
+
+abbrev pub names_table : List (List Entry) → Block → Bool
+names_table tables block = has_table tables block.function
 
 -- the entries of a table, none where it is not there
 abbrev pub entries_at : List (List Entry) → ℕ → List Entry
@@ -53,6 +58,14 @@ has_phrase function = true
 abbrev pub has_texts : Block → Bool
 has_texts block = has_phrase block.function && option_map_or is_shown block.help true
 
+-- the bytes that a function reads are some, and a field may have each
+abbrev pub may_read : Function → Bool
+may_read (Run set) = not (is_empty set) && may_be_field set
+may_read function = true
+
+abbrev pub has_bytes : Block → Bool
+has_bytes block = may_read block.function
+
 -- all generations come with wildcards alone
 abbrev pub has_flags : Block → Bool
 has_flags block = block.flags.wild || not block.flags.all_generations
@@ -62,12 +75,12 @@ abbrev pub node_fault : List (List Entry) → ℕ → ℕ → Node → Option Gr
 node_fault tables nodes number node =
     if length node.chain == 0 then Some (EmptyChain number)
     else (if nat_lt BLOCK_LIMIT (length node.chain) then Some (ChainLong number)
-    else (if not (list_all (λ (block : Block). has_table tables block.function) node.chain)
-    then Some (TableRange number)
+    else (if not (list_all (names_table tables) node.chain) then Some (TableRange number)
     else (if not (list_all (leads_within tables nodes) node.chain) then Some (NextRange number)
     else (if not (option_map_or is_shown node.default true && list_all has_texts node.chain)
     then Some (BadText number)
-    else (if not (list_all has_flags node.chain) then Some (BadFlags number) else None)))))
+    else (if not (list_all has_bytes node.chain) then Some (BadBytes number)
+    else (if not (list_all has_flags node.chain) then Some (BadFlags number) else None))))))
 
 -- the first of two faults
 abbrev pub or_fault : Option GrammarFault → Option GrammarFault → Option GrammarFault

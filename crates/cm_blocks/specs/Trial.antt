@@ -11,13 +11,13 @@ use Rattle.cm_fields.specs.declared.value.Value.TheVariants as values
 use Rattle.cm_fields.specs.Mark.{comma, confirm}
 use Rattle.cm_fields.specs.Phrase.{noise, token}
 use Rattle.cm_fields.specs.Quoted.{quoted}
-use Rattle.cm_fields.specs.Run.{number, word}
+use Rattle.cm_fields.specs.Run.{number, run_field, word}
 use Rattle.cm_fields.specs.Text.{text_field}
 use Rattle.cm_files.specs.declared.flags.Flags.{Flags}
 use Rattle.cm_files.specs.Fields.{directory, file, user}
 use Rattle.cm_hooks.specs.Field.{hook}
 use Rattle.cm_blocks.specs.declared.function.Function.{Function}
-use Rattle.cm_blocks.specs.declared.function.Function.TheVariants.{Key, Switch, Noise, Number, Word, Quoted, Token, Date, User, Directory, InFile, OutFile, AnyFile, Text, Comma, Confirm, Hook}
+use Rattle.cm_blocks.specs.declared.function.Function.TheVariants.{Key, Switch, Noise, Number, Word, Run, Quoted, Token, Date, User, Directory, InFile, OutFile, AnyFile, Text, Comma, Confirm, Hook}
 use Rattle.cm_blocks.specs.declared.node.Block.{Block}
 use Rattle.cm_blocks.specs.Grammar.{Graph}
 use Rattle.cm_blocks.specs.Keyword.{key, switch}
@@ -35,6 +35,7 @@ trial s (Switch table) flags rest at = switch (table_of s.graph table) rest at
 trial s (Noise text) flags rest at = noise text rest at
 trial s Number flags rest at = number rest at
 trial s Word flags rest at = word rest at
+trial s (Run set) flags rest at = run_field set rest at
 trial s Quoted flags rest at = quoted rest at
 trial s (Token text) flags rest at = token text rest at
 trial s Date flags rest at = date rest at

@@ -5,14 +5,15 @@ use Rattle.cm_tables.specs.Order.{table_fault}
 use Rattle.cm_blocks.specs.declared.fault.TheConstants.{BLOCK_LIMIT}
 use Rattle.cm_blocks.specs.declared.node.Block.{Block}
 use Rattle.cm_blocks.specs.declared.node.Node.{Node}
-use Rattle.cm_blocks.specs.Fault.{has_phrase, has_table, leads_within}
+use Rattle.cm_blocks.specs.Fault.{has_phrase, has_table, leads_within, may_read}
 use Rattle.cm_blocks.specs.Grammar.{Graph}
 
--- the table and the nodes that a block names are there, and its phrase is one that it may read
+-- the table and the nodes that a block names are there, and its phrase and its bytes are some that it may read
 pub record IsWellBlock (graph : Graph) (block : Block) : Type 0 where
   pub table : has_table graph.tables block.function ≡ true
   pub leads : leads_within graph.tables (length graph.nodes) block ≡ true
   pub phrase : has_phrase block.function ≡ true
+  pub bytes : may_read block.function ≡ true
 
 -- a node has some blocks, and no more than it may, each of them well
 pub record IsWell (graph : Graph) (node : Node) : Type 0 where

@@ -3,9 +3,10 @@ ghost use Rattle.std.specs.Prelude.{◌≡◌, ◌≤◌, true, length, nat_lt};
 ghost use Rattle.std.specs.List.{list_all, list_any};
 ghost use Rattle.std.specs.Option.{option_map_or};
 ghost use Rattle.cm_text.specs.Bytes.{is_shown};
-ghost use Rattle.cm_blocks.specs.Fault.{chain_confirms, entries_at, entries_of, grammar_fault, has_flags, has_phrase, has_size, has_table, has_texts, is_confirm, is_parenthesis, is_phrase, leads_within, node_fault, nodes_fault};
+ghost use Rattle.cm_blocks.specs.Fault.{chain_confirms, entries_at, entries_of, grammar_fault, has_bytes, has_flags, has_phrase, has_size, has_table, has_texts, is_confirm, is_parenthesis, is_phrase, leads_within, may_read, names_table, node_fault, nodes_fault};
 
 use crate::{Block, Function, GrammarFault, Node};
+use cm_fields::may_be_field;
 use cm_tables::{Entry, Table};
 use cm_text::{Name, is_shown};
 
@@ -37,7 +38,7 @@ fn has_table(tables: &[Table], function: &Function) -> bool
 }
 
 fn have_tables(tables: &[Table], chain: &[Block]) -> bool
-    ensures { result ≡ list_all (λ block. has_table tables.now block.function) chain.now }
+    ensures { result ≡ list_all (names_table tables.now) chain.now }
 {
     chain.iter().all(|block| has_table(tables, &block.function))
 }
@@ -127,6 +128,28 @@ fn lead_within(tables: &[Table], nodes: usize, chain: &[Block]) -> bool
     chain.iter().all(|block| leads_within(tables, nodes, block))
 }
 
+// Whether the bytes that a function reads are some that a field may have.
+fn may_read(function: &Function) -> bool
+    ensures { result ≡ may_read function.now }
+{
+    match function {
+        Function::Run(set) => !set.is_empty() && may_be_field(*set),
+        _ => true,
+    }
+}
+
+fn has_bytes(block: &Block) -> bool
+    ensures { result ≡ has_bytes block.now }
+{
+    may_read(&block.function)
+}
+
+fn have_bytes(chain: &[Block]) -> bool
+    ensures { result ≡ list_all has_bytes chain.now }
+{
+    chain.iter().all(has_bytes)
+}
+
 fn has_flags(block: &Block) -> bool
     ensures { result ≡ has_flags block.now }
 {
@@ -154,6 +177,8 @@ fn node_fault(tables: &[Table], nodes: usize, number: u16, node: &Node) -> Optio
         Some(GrammarFault::NextRange(number))
     } else if !(is_shown_or_none(&node.default) && have_texts(chain)) {
         Some(GrammarFault::BadText(number))
+    } else if !have_bytes(chain) {
+        Some(GrammarFault::BadBytes(number))
     } else if !have_flags(chain) {
         Some(GrammarFault::BadFlags(number))
     } else {

@@ -1,5 +1,5 @@
 // What a block reads, and what its field is for.
-use cm_text::Name;
+use cm_text::{ByteSet, Name};
 
 /// A function of COMND: what a block reads. A number names a table of the grammar, or a hook.
 #[derive(Clone, Debug, Drop)]
@@ -14,6 +14,8 @@ pub enum Function {
     Number,
     /// A word (.CMFLD).
     Word,
+    /// A run of the bytes of this set, of any length (.CMFLD with a break mask, .CMBRK).
+    Run(ByteSet),
     /// A quoted text (.CMQST).
     Quoted,
     /// This text (.CMTOK).

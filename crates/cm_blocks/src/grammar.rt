@@ -32,6 +32,9 @@ pub enum GrammarFault {
     /// guide word or a token is empty; or a guide word has a parenthesis.
     #[error("BadText")]
     BadText(u16),
+    /// A block reads runs of no byte, or of CR, the join byte or `?`.
+    #[error("BadBytes")]
+    BadBytes(u16),
     /// A block takes all generations and no wildcards.
     #[error("BadFlags")]
     BadFlags(u16),
@@ -65,7 +68,7 @@ impl Model for Grammar {
 
 impl Grammar {
     /// The grammar with these nodes and tables, or the first fault: the numbers of nodes and tables, then for
-    /// the least node at fault its chain, tables, next nodes, texts and flags in this order, then that none
+    /// the least node at fault its chain, tables, next nodes, texts, bytes and flags in this order, then that none
     /// confirms.
     pub fn new(nodes: Vec<Node>, tables: Vec<Table>) -> Result<Grammar, GrammarFault>
         // [grammar-fault]
