@@ -29,7 +29,7 @@ use Rattle.cm_hooks.specs.Meanings.{Completes, IsLawful}
 use Rattle.cm_blocks.specs.declared.field.Ending.{Ending}
 use Rattle.cm_blocks.specs.declared.field.Ending.TheVariants as ending
 use Rattle.cm_blocks.specs.declared.function.Function.{Function}
-use Rattle.cm_blocks.specs.declared.function.Function.TheVariants.{Key, Switch, Noise, Number, Word, Quoted, Token, Date, User, Directory, InFile, OutFile, AnyFile, Text, Comma, Confirm, Hook}
+use Rattle.cm_blocks.specs.declared.function.Function.TheVariants.{Key, Switch, Noise, Number, Word, Run, Quoted, Token, Date, User, Directory, InFile, OutFile, AnyFile, Text, Comma, Confirm, Hook}
 use Rattle.cm_blocks.specs.declared.node.Block.{Block}
 use Rattle.cm_blocks.specs.declared.node.Node.{Node}
 use Rattle.cm_blocks.specs.Fault.{grammar_fault, has_phrase, is_parenthesis, is_phrase}
@@ -119,6 +119,7 @@ function_shown s mode (Hook id) flags next atom plain named tables lawful has sh
     (hook_shown next plain (s.meanings.verdict id) atom (s.meanings.completion id atom) own (lawful.completes id atom short))
 function_shown s mode Number flags next atom plain named tables lawful has short own = own
 function_shown s mode Word flags next atom plain named tables lawful has short own = own
+function_shown s mode (Run set) flags next atom plain named tables lawful has short own = own
 function_shown s mode Quoted flags next atom plain named tables lawful has short own = own
 function_shown s mode OutFile flags next atom plain named tables lawful has short own = own
 function_shown s mode Text flags next atom plain named tables lawful has short own = own

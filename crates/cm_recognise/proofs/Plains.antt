@@ -8,6 +8,7 @@ use Rattle.std.proofs.lemmas.List.Folds.{prefix_len-append}
 use Rattle.std.proofs.Math.Seq.{take-append_seam}
 use Rattle.cm_lists.proofs.Bools.{by_test, cond_each}
 use Rattle.cm_text.specs.Bytes.{is_name, is_word}
+use Rattle.cm_text.specs.ByteSets.{has_byte}
 use Rattle.cm_text.specs.declared.name.TheConstants.{NAME_LIMIT}
 use Rattle.cm_dates.specs.Date.{date, date_of, dated, month_of}
 use Rattle.cm_dates.proofs.Values.{IsDateIfOk, run_is_date}
@@ -22,7 +23,7 @@ use Rattle.cm_fields.specs.declared.value.Value.{Value}
 use Rattle.cm_fields.specs.declared.value.Value.TheVariants as values
 use Rattle.cm_fields.specs.Mark.{comma, confirm}
 use Rattle.cm_fields.specs.Quoted.{quoted}
-use Rattle.cm_fields.specs.Run.{number, number_of, word, word_of}
+use Rattle.cm_fields.specs.Run.{number, number_of, run_field, run_of, word, word_of}
 use Rattle.cm_fields.specs.Text.{is_inside, text_field, text_of}
 use Rattle.cm_fields.specs.Try.{by_run, said, span}
 use Rattle.cm_fields.proofs.QuotedTexts.{IsQuoted, QuotedAt, quoted_ends}
@@ -151,15 +152,32 @@ pub hook_ends : (verdict : ℕ → List ℕ → Answer) (id : ℕ) (rest : List 
     → EndsAt (at + length rest) (hook verdict id (rest ++ 32 ∷ []) at)
 hook_ends verdict id rest at is = run_ends is_name (hook_of verdict id) rest at space_no_name (hook_own verdict id rest) is
 
--- a space does not end the rest of the line
-pub text_ends : (rest : List ℕ) (at : ℕ) → text_field rest at ≡ More → EndsAt (at + length rest) (text_field (rest ++ 32 ∷ []) at)
-text_ends rest at is =
-    let run = run_wants is_inside (text_of at) rest at is in
-    let both = prefix_len-append is_inside rest (32 ∷ []) in
+-- a space does not end a run that may have spaces
+run_goes_on : (is_part : ℕ → Bool) (decide : List ℕ → Result Value Code) (rest : List ℕ) (at : ℕ) → is_part 32 ≡ true
+    → by_run is_part decide rest at ≡ More → EndsAt (at + length rest) (by_run is_part decide (rest ++ 32 ∷ []) at)
+run_goes_on is_part decide rest at inside is =
+    let run = run_wants is_part decide rest at is in
+    let both = prefix_len-append is_part rest (32 ∷ []) in
     let size = length-append rest (32 ∷ []) in
-    let all : prefix_len is_inside (rest ++ 32 ∷ []) ≡ length (rest ++ 32 ∷ []) = grind (arith, nat_tests) in
-    let test : (prefix_len is_inside (rest ++ 32 ∷ []) == length (rest ++ 32 ∷ [])) ≡ true = grind (arith, nat_tests) in
+    let one : prefix_len is_part (32 ∷ []) ≡ 1 = rw inside refl in
+    let all : prefix_len is_part (rest ++ 32 ∷ []) ≡ length (rest ++ 32 ∷ []) = grind (arith, nat_tests) in
+    let test : (prefix_len is_part (rest ++ 32 ∷ []) == length (rest ++ 32 ∷ [])) ≡ true = grind (arith, nat_tests) in
     rw test tt
+
+-- so it is of the rest of the line
+pub text_ends : (rest : List ℕ) (at : ℕ) → text_field rest at ≡ More → EndsAt (at + length rest) (text_field (rest ++ 32 ∷ []) at)
+text_ends rest at is = run_goes_on is_inside (text_of at) rest at refl is
+
+set_own : (at : ℕ) (run : List ℕ) → IsOwnIfOk (run_of at run)
+unfolding run_of
+set_own at run = cond_each IsOwnIfOk (length run == 0) (Err NoField) (Ok (values.Word (span at (length run)))) tt tt
+
+-- a run of the bytes of a set may have spaces, or none
+pub set_ends : (set : ℕ) (rest : List ℕ) (at : ℕ) → run_field set rest at ≡ More
+    → EndsAt (at + length rest) (run_field set (rest ++ 32 ∷ []) at)
+set_ends set rest at is =
+    by_test _ (has_byte set 32) (λ inside. run_goes_on (has_byte set) (run_of at) rest at inside is)
+    (λ outside. run_ends (has_byte set) (run_of at) rest at outside (set_own at rest) is)
 
 -- a comma and the end of the line are decided by what is typed
 pub comma_ends : (rest : List ℕ) (at : ℕ) → comma rest at ≡ More → EndsAt (at + length rest) (comma (rest ++ 32 ∷ []) at)

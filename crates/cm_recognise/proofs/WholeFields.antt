@@ -9,6 +9,7 @@ use Rattle.std.proofs.lemmas.List.{drop_all}
 use Rattle.std.proofs.lemmas.Option.{get_or_from_slice_get, slice_get_within}
 use Rattle.cm_lists.proofs.Prefixes.{prefix_len_both, prefix_len_drop}
 use Rattle.cm_text.specs.Bytes.{is_blank, is_name, is_shown, is_word}
+use Rattle.cm_text.specs.ByteSets.{has_byte}
 use Rattle.cm_text.specs.Text.{IsLine}
 use Rattle.cm_text.specs.declared.text.TheConstants.{LINE_LIMIT}
 use Rattle.cm_tables.specs.Look.{look}
@@ -20,7 +21,7 @@ use Rattle.cm_fields.specs.declared.value.Value.{Value}
 use Rattle.cm_fields.specs.declared.value.Value.TheVariants as values
 use Rattle.cm_fields.specs.Local.{Stays}
 use Rattle.cm_fields.specs.BeforeField.{BeginsOther}
-use Rattle.cm_fields.specs.Run.{number_of, word_of}
+use Rattle.cm_fields.specs.Run.{number_of, run_field, run_of, word_of}
 use Rattle.cm_files.specs.declared.flags.Flags.{Flags}
 use Rattle.cm_files.specs.Catalogue.{Catalogue, IsCatalogue}
 use Rattle.cm_files.specs.Fields.{directory, directory_of, file_of}
@@ -31,7 +32,7 @@ use Rattle.cm_hooks.specs.declared.answer.Tail.TheVariants as tails
 use Rattle.cm_hooks.specs.Field.{hook, hook_of, judged}
 use Rattle.cm_hooks.specs.Meanings.{Completes, IsLawful, IsYes}
 use Rattle.cm_blocks.specs.declared.function.Function.{Function}
-use Rattle.cm_blocks.specs.declared.function.Function.TheVariants.{Key, Switch, Noise, Number, Word, Quoted, Token, Date, User, Directory, InFile, OutFile, AnyFile, Text, Comma, Confirm, Hook}
+use Rattle.cm_blocks.specs.declared.function.Function.TheVariants.{Key, Switch, Noise, Number, Word, Run, Quoted, Token, Date, User, Directory, InFile, OutFile, AnyFile, Text, Comma, Confirm, Hook}
 use Rattle.cm_blocks.specs.declared.node.Block.{Block}
 use Rattle.cm_blocks.specs.Chain.{chain_at, is_confirm}
 use Rattle.cm_blocks.specs.Fault.{grammar_fault, has_flags, has_phrase, is_parenthesis, is_phrase}
@@ -56,7 +57,7 @@ use Rattle.cm_recognise.proofs.Continuations.{chain_goes_on}
 use Rattle.cm_recognise.proofs.Guides.{noise_bytes, noise_takes, phrase_completes, token_takes}
 use Rattle.cm_recognise.proofs.Keywords.{key_begins, key_takes, keyword_completes, switch_takes}
 use Rattle.cm_recognise.proofs.Lines.{after_shown, outcome_shown}
-use Rattle.cm_recognise.proofs.Plains.{EndsAt, IsOwn, comma_ends, confirm_ends, date_ends, date_of_nothing, file_ends, hook_ends, number_ends, quoted_closes, run_wants, run_whole, space_no_name, text_ends, word_ends}
+use Rattle.cm_recognise.proofs.Plains.{EndsAt, IsOwn, comma_ends, confirm_ends, date_ends, date_of_nothing, file_ends, hook_ends, number_ends, quoted_closes, run_wants, run_whole, set_ends, space_no_name, text_ends, word_ends}
 use Rattle.cm_recognise.proofs.ShownBytes.{IsShown}
 use Rattle.cm_recognise.proofs.Texts.{shown_append, table_none, line_of_shown}
 
@@ -209,6 +210,8 @@ function_takes s mode block Number atom bytes more at next named device flags ta
     plain_takes s (record block { function = Number }) atom bytes more at next (number_ends atom at wants) is
 function_takes s mode block Word atom bytes more at next named device flags tables lawful has short wants is =
     plain_takes s (record block { function = Word }) atom bytes more at next (word_ends atom at wants) is
+function_takes s mode block (Run set) atom bytes more at next named device flags tables lawful has short wants is =
+    plain_takes s (record block { function = Run set }) atom bytes more at next (set_ends set atom at wants) is
 function_takes s mode block Quoted atom bytes more at next named device flags tables lawful has short wants is =
     plain_takes s (record block { function = Quoted }) atom bytes more at next (quoted_closes atom at wants) is
 function_takes s mode block Date atom bytes more at next named device flags tables lawful has short wants is =
@@ -236,6 +239,16 @@ function_takes s mode block Comma atom bytes more at next named device flags tab
 function_takes s mode block Confirm atom bytes more at next named device flags tables lawful has short wants is =
     plain_takes s (record block { function = Confirm }) atom bytes more at next (confirm_ends atom at wants) is
 
+-- where nothing is typed, a run is not whole
+no_run_begins : (set follows : ℕ) (bytes : List ℕ) (at next : ℕ)
+    → plain_outcome follows (run_field set (32 ∷ []) at) ≡ Whole bytes next → ⊥
+unfolding run_of
+no_run_begins set follows bytes at next is = by (has_byte set 32) refl
+  where
+    by : (test : Bool) → has_byte set 32 ≡ test → ⊥
+    by true has = let never = rw has at is in cc
+    by false has = let never = rw has at is in cc
+
 -- where nothing is typed, what completes a field whole begins with nothing that is skipped
 directory_begins : (c : Catalogue) (new raw : Bool) (follows : ℕ) (bytes more : List ℕ) (at next : ℕ)
     → directory_outcome c new follows [] (plain_outcome follows (directory new c (32 ∷ []) at)) ≡ Whole bytes next
@@ -260,6 +273,7 @@ function_begins s mode (Token text) flags follows bytes more at next raw named t
 function_begins s mode (Hook id) flags follows bytes more at next raw named tables is = cc
 function_begins s mode Number flags follows bytes more at next raw named tables is = cc
 function_begins s mode Word flags follows bytes more at next raw named tables is = cc
+function_begins s mode (Run set) flags follows bytes more at next raw named tables is = absurd (no_run_begins set follows bytes at next is)
 function_begins s mode Quoted flags follows bytes more at next raw named tables is = cc
 function_begins s mode Date flags follows bytes more at next raw named tables is =
     let never = rw date_of_nothing at is in cc
