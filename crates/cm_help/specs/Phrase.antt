@@ -4,7 +4,7 @@ use Rattle.cm_text.specs.ScreenBytes.{end_of_line}
 use Rattle.cm_tables.specs.declared.entry.Entry.{Entry}
 use Rattle.cm_tables.specs.Listing.{listed_from}
 use Rattle.cm_blocks.specs.declared.function.Function.{Function}
-use Rattle.cm_blocks.specs.declared.function.Function.TheVariants.{Key, Switch, Noise, Number, Word, Quoted, Token, Date, User, Directory, InFile, OutFile, AnyFile, Text, Comma, Confirm, Hook}
+use Rattle.cm_blocks.specs.declared.function.Function.TheVariants.{Key, Switch, Noise, Number, Word, Run, Quoted, Token, Date, User, Directory, InFile, OutFile, AnyFile, Text, Comma, Confirm, Hook}
 use Rattle.cm_blocks.specs.declared.node.Block.{Block}
 use Rattle.cm_blocks.specs.Grammar.{Graph}
 use Rattle.cm_blocks.specs.Trial.{table_of}
@@ -65,6 +65,7 @@ function_phrase graph meanings (Switch table) atom = keywords true (listed_from 
 function_phrase graph meanings (Noise text) atom = guide_word ++ text ++ guide_end
 function_phrase graph meanings Number atom = codes "decimal number"
 function_phrase graph meanings Word atom = codes "word"
+function_phrase graph meanings (Run set) atom = codes "field"
 function_phrase graph meanings Quoted atom = codes "quoted string"
 function_phrase graph meanings (Token text) atom = quote ++ text ++ quote
 function_phrase graph meanings Date atom = codes "date, as 5-JAN-1980"

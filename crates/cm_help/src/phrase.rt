@@ -160,6 +160,7 @@ fn put_function<R: Rules, S: Sink>(
         Function::Noise(text) => put_between(guide_word(), text.as_bytes(), guide_end(), out),
         Function::Number => out.put(b"decimal number"),
         Function::Word => out.put(b"word"),
+        Function::Run(_) => out.put(b"field"),
         Function::Quoted => out.put(b"quoted string"),
         Function::Token(text) => put_between(quote(), text.as_bytes(), quote(), out),
         Function::Date => out.put(b"date, as 5-JAN-1980"),
