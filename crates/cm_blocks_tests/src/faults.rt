@@ -53,7 +53,19 @@ Word+all_generations/ => Some(BadFlags(0))
 Nothing/Key:2 => Some(BadText(0))
 Word/ => Some(EmptyChain(1))
 Word*17 => Some(ChainLong(0))
-Word/Word+all_generations => Some(BadFlags(1))";
+Word/Word+all_generations => Some(BadFlags(1))
+Confirm/Run:0 => None
+Confirm/Run:1 => Some(BadBytes(1))
+Confirm/Run:2 => Some(BadBytes(1))
+Confirm/Run:3 => Some(BadBytes(1))
+Confirm/Word Run:4 => Some(BadBytes(1))
+Confirm/Run:5 => None
+Confirm/Run:6 => Some(BadBytes(1))
+Run:1>9 => Some(NextRange(0))
+Run:1 Nothing => Some(BadText(0))
+Run:1+all_generations => Some(BadBytes(0))
+Word+all_generations Run:1 => Some(BadBytes(0))
+Run:1/ => Some(BadBytes(0))";
 
 // [grammar-fault]
 #[test]

@@ -5,7 +5,7 @@ use crate::cases::{Subject, debug_text, hold};
 use crate::files::flags_of;
 use cm_blocks::{Block, Blocks, Function, Grammar, Node, Role};
 use cm_tables::{Entry, Flag, Table};
-use cm_text::{NAME_LIMIT, Name};
+use cm_text::{ByteSet, NAME_LIMIT, Name};
 use std::alloc::Global;
 use std::test::Fail;
 
@@ -22,9 +22,9 @@ pub(crate) fn entry(text: &str, colon: bool, code: u16, next: u16) -> Entry
     }
 }
 
-// The functions by their names. A token is `12` or nothing, and a guide word `FROM`.
+// The functions by their names. A token is `12` or nothing, a guide word `FROM`, and a run of what `set_of` says.
 const FUNCTIONS: &str =
-    "Confirm Word Number Quoted Comma Text User Directory InFile Key Switch Hook Noise Token Date Nothing";
+    "Confirm Word Number Quoted Comma Text User Directory InFile Key Switch Hook Noise Token Date Run Nothing";
 
 fn function_of(name: &str, number: u16) -> Result<Function, Fail> {
     let place = FUNCTIONS.split(' ').position(|word| word == name);
@@ -44,8 +44,23 @@ fn function_of(name: &str, number: u16) -> Result<Function, Fail> {
         12 => Function::Noise(Name::new("FROM")),
         13 => Function::Token(Name::new("12")),
         14 => Function::Date,
+        15 => Function::Run(set_of(number)),
         _ => Function::Token(Name::new("")),
     })
+}
+
+// The bytes of a run: of an address, no byte, or a byte more that no field has.
+fn set_of(number: u16) -> ByteSet {
+    let address = ByteSet::of(b"./").with_range(b'0', b'9');
+    match number {
+        0 => address,
+        1 => ByteSet::of(b""),
+        2 => address.with_range(b'\r', b'\r'),
+        3 => address.with_range(b'\n', b'\n'),
+        4 => address.with_range(b'?', b'?'),
+        5 => address.with_range(b' ', b'>'),
+        _ => address.with_range(b' ', b'~'),
+    }
 }
 
 fn role_of(function: &Function) -> Role {

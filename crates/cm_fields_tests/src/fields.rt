@@ -4,8 +4,9 @@ use cm_dates::date;
 use cm_fields::laws::{skip_passes_blanks_and_comments, skip_stays, trials_are_local};
 use cm_fields::{
     Code, Try, comma, confirm, noise, number as number_field, quoted, skip, text_field, token,
-    unquoted, word,
+    run_field, unquoted, word,
 };
+use cm_text::ByteSet;
 use std::alloc::Global;
 use std::process::Abort;
 use std::test::Fail;
@@ -15,6 +16,7 @@ use std::test::Fail;
 pub(crate) enum Trial {
     Number,
     Word,
+    Run(ByteSet),
     Noise(&'static str),
     Token(&'static str),
     Quoted,
@@ -36,6 +38,7 @@ impl Trial {
         match self {
             Trial::Number => number_field(text, at),
             Trial::Word => word(text, at),
+            Trial::Run(set) => run_field(set, text, at),
             Trial::Noise(phrase) => noise(phrase, text, at),
             Trial::Token(phrase) => token(phrase, text, at),
             Trial::Quoted => quoted(text, at),

@@ -21,6 +21,8 @@ mod outside;
 #[cfg(test)]
 mod reasons;
 #[cfg(test)]
+mod runs;
+#[cfg(test)]
 mod std_log;
 #[cfg(test)]
 mod stored;

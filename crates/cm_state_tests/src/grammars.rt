@@ -19,9 +19,14 @@ pub(crate) fn exec(alloc: Global) -> Result<Grammar, Fail> {
 // A grammar with fields of all kinds.
 pub(crate) fn fields(alloc: Global) -> Result<Grammar, Fail> {
     Ok(Grammar::new(
-        nodes::nodes(alloc, texts::FIELD_NODES, 29)?,
+        nodes::nodes(alloc, texts::FIELD_NODES, 32)?,
         tables::tables(alloc, texts::FIELD_TABLES)?,
     )?)
+}
+
+// A grammar with an address and a path.
+pub(crate) fn addresses(alloc: Global) -> Result<Grammar, Fail> {
+    Ok(Grammar::new(nodes::nodes(alloc, texts::ADDRESS_NODES, 3)?, Vec::new(alloc))?)
 }
 
 // A grammar whose nodes have defaults, with two fields of each of two roles.

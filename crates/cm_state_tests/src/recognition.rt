@@ -131,6 +131,18 @@ fn what_does_not_fit_is_not_put_in(rt: HostRuntime) -> Result<(), Fail> {
     )
 }
 
+// A run of the bytes of a set is whole as it is typed, but not one that may have spaces. Control-F asks none.
+#[test]
+fn runs_of_a_set_go_on(rt: HostRuntime) -> Result<(), Fail> {
+    let cases = "\
+29.0@0|10.0.0.1/8| |
+29.0@0|||bell
+30.0@0|/usr/lib/eth0.100| |
+31.0@0|two words||bell";
+    tries(&rt, rt.alloc(), Question::Completion(Mode::Escape), cases)?;
+    tries(&rt, rt.alloc(), Question::Completion(Mode::Part), "29.0@0|10.0.0.1/8||bell")
+}
+
 #[test]
 fn it_rings_where_no_block_waits(rt: HostRuntime) -> Result<(), Fail> {
     let cases = "\

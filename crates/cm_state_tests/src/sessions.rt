@@ -1,4 +1,5 @@
 // Sessions by example.
+mod addresses;
 mod again;
 mod fields;
 mod joins;

@@ -15,6 +15,7 @@ fn put_function(text: &mut String, function: &Function) -> Result<(), AllocError
         Function::Token(sign) => write!(text, "Token({})", sign.as_str()),
         Function::Number => text.push_str("Number"),
         Function::Word => text.push_str("Word"),
+        Function::Run(_) => text.push_str("Run"),
         Function::Quoted => text.push_str("Quoted"),
         Function::Date => text.push_str("Date"),
         Function::User => text.push_str("User"),

@@ -1,6 +1,6 @@
 // What blocks read.
 use cm_blocks::Function;
-use cm_text::{NAME_LIMIT, Name};
+use cm_text::{ByteSet, NAME_LIMIT, Name};
 
 // A name with this text. None where it is too long.
 pub(crate) fn name(text: &str) -> Option<Name> {
@@ -17,7 +17,7 @@ pub(crate) fn some_name(text: &str) -> Option<Name> {
 
 // The functions that are told by their names alone.
 const PLAIN: &str =
-    "number word quoted date text comma confirm user directory infile outfile anyfile";
+    "number word quoted date text comma confirm user directory infile outfile address path spaced anyfile";
 
 // A function: its name, and after a space the number or the text that it reads.
 pub(crate) fn function(text: &str) -> Option<Function> {
@@ -61,6 +61,9 @@ fn plain(kind: &str) -> Option<Function> {
         8 => Function::Directory,
         9 => Function::InFile,
         10 => Function::OutFile,
+        11 => Function::Run(ByteSet::of(b"./").with_range(b'0', b'9')),
+        12 => Function::Run(ByteSet::of(b"-._~/").with_range(b'0', b'9').with_range(b'a', b'z')),
+        13 => Function::Run(ByteSet::of(b" ").with_range(b'a', b'z')),
         _ => Function::AnyFile,
     })
 }

@@ -85,7 +85,10 @@ pub(crate) const FIELD_NODES: &str = "\
 25 user > 24 / directory > 24 / infile > 24 / outfile > 24 / anyfile > 24
 26 hook 3 > 24
 27 quoted > 24
-28 key 4 > 24 / switch 5 > 24";
+28 key 4 > 24 / switch 5 > 24
+29 address > 30 ? address and prefix
+30 path > 24
+31 spaced > 24";
 
 pub(crate) const FIELD_TABLES: &str = "\
 COPY 0 1
@@ -116,6 +119,12 @@ NAME 0 24 ? a room (again)
 BY: 0 24 ? how many levels
 FAST 0 24 ? at once
 ONCE: 0 24";
+
+// An address with the length of its prefix, and a path.
+pub(crate) const ADDRESS_NODES: &str = "\
+0 address > 1 What ? address and prefix
+1 path > 2 Value
+2 confirm > 2";
 
 // A word, a number, a quoted text and the rest of the line, of two roles, each with a default; and after a comma a
 // file that is there and a directory that may be new.
