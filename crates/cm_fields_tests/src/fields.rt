@@ -3,8 +3,8 @@ use crate::cases::{is_wanted, number, part};
 use cm_dates::date;
 use cm_fields::laws::{skip_passes_blanks_and_comments, skip_stays, trials_are_local};
 use cm_fields::{
-    Code, Try, comma, confirm, noise, number as number_field, quoted, skip, text_field, token,
-    run_field, unquoted, word,
+    Code, Try, comma, confirm, noise, number as number_field, quoted, run_field, skip, text_field,
+    token, unquoted, word,
 };
 use cm_text::ByteSet;
 use std::alloc::Global;
@@ -16,7 +16,7 @@ use std::test::Fail;
 pub(crate) enum Trial {
     Number,
     Word,
-    Run(ByteSet),
+    Address,
     Noise(&'static str),
     Token(&'static str),
     Quoted,
@@ -38,7 +38,7 @@ impl Trial {
         match self {
             Trial::Number => number_field(text, at),
             Trial::Word => word(text, at),
-            Trial::Run(set) => run_field(set, text, at),
+            Trial::Address => run_field(address(), text, at),
             Trial::Noise(phrase) => noise(phrase, text, at),
             Trial::Token(phrase) => token(phrase, text, at),
             Trial::Quoted => quoted(text, at),
@@ -48,6 +48,11 @@ impl Trial {
             Trial::Date => date(text, at),
         }
     }
+}
+
+// The bytes of an address and of the length of its prefix, as in 10.0.0.1/8.
+pub(crate) fn address() -> ByteSet {
+    ByteSet::of(b"./").with_range(b'0', b'9')
 }
 
 // A case is a text, the place of the field in it, and what the function makes of it.

@@ -3,7 +3,7 @@ use crate::fields::{Trial, tries};
 use cm_text::ByteSet;
 use std::test::Fail;
 
-// An address of the Internet and the length of its prefix, as in 10.0.0.1/8: digits, points and slashes.
+// Digits, points and slashes.
 const ADDRESSES: &str = "\
 |0|More
 10.0.0.1/8|0|More
@@ -19,16 +19,23 @@ eth0.100\r|0|Refuse { code: NoField, looked: 1 }
 
 #[test]
 fn takes_runs_of_a_set(rt: HostRuntime) -> Result<(), Fail> {
-    let set = ByteSet::of(b"./").with_range(b'0', b'9');
-    tries(&rt, rt.alloc(), Trial::Run(set), ADDRESSES)
+    tries(&rt, rt.alloc(), Trial::Address, ADDRESSES)
 }
 
 // Which bytes are in a set: those that were named, and each from the first to the last of a range.
 #[test]
 fn a_set_has_its_bytes(rt: HostRuntime) -> Result<(), Fail> {
-    let set = ByteSet::of(b"/.").with_range(b'0', b'9').with_range(b'Z', b'A');
-    let found = b"-./09:AZ\xaf".iter().filter(|byte| set.has(**byte)).count();
-    assert_eq!(rt; (found, set.is_empty(), ByteSet::of(b"").is_empty()), (4, false, true));
+    let set = ByteSet::of(b"/.")
+        .with_range(b'0', b'9')
+        .with_range(b'Z', b'A');
+    let found = b"-./09:AZ\xaf"
+        .iter()
+        .filter(|byte| set.has(**byte))
+        .count();
+    assert_eq!(rt;
+        (found, set.is_empty(), ByteSet::of(b"").is_empty()),
+        (4, false, true)
+    );
     Ok(())
 }
 

@@ -26,7 +26,10 @@ pub(crate) fn fields(alloc: Global) -> Result<Grammar, Fail> {
 
 // A grammar with an address and a path.
 pub(crate) fn addresses(alloc: Global) -> Result<Grammar, Fail> {
-    Ok(Grammar::new(nodes::nodes(alloc, texts::ADDRESS_NODES, 3)?, Vec::new(alloc))?)
+    Ok(Grammar::new(
+        nodes::nodes(alloc, texts::ADDRESS_NODES, 3)?,
+        Vec::new(alloc),
+    )?)
 }
 
 // A grammar whose nodes have defaults, with two fields of each of two roles.

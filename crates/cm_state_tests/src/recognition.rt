@@ -140,7 +140,12 @@ fn runs_of_a_set_go_on(rt: HostRuntime) -> Result<(), Fail> {
 30.0@0|/usr/lib/eth0.100| |
 31.0@0|two words||bell";
     tries(&rt, rt.alloc(), Question::Completion(Mode::Escape), cases)?;
-    tries(&rt, rt.alloc(), Question::Completion(Mode::Part), "29.0@0|10.0.0.1/8||bell")
+    tries(
+        &rt,
+        rt.alloc(),
+        Question::Completion(Mode::Part),
+        "29.0@0|10.0.0.1/8||bell",
+    )
 }
 
 #[test]

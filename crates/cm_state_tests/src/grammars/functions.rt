@@ -62,7 +62,11 @@ fn plain(kind: &str) -> Option<Function> {
         9 => Function::InFile,
         10 => Function::OutFile,
         11 => Function::Run(ByteSet::of(b"./").with_range(b'0', b'9')),
-        12 => Function::Run(ByteSet::of(b"-._~/").with_range(b'0', b'9').with_range(b'a', b'z')),
+        12 => Function::Run(
+            ByteSet::of(b"-._~/")
+                .with_range(b'0', b'9')
+                .with_range(b'a', b'z'),
+        ),
         13 => Function::Run(ByteSet::of(b" ").with_range(b'a', b'z')),
         _ => Function::AnyFile,
     })
