@@ -1,0 +1,6 @@
+pub mod Mac
+pub mod MacShape
+pub mod Parts
+pub mod Prefix
+pub mod Reads
+pub mod Written
