@@ -8,7 +8,7 @@ use Rattle.std.proofs.lemmas.Str.{digit_value-digit_char}
 use Rattle.std.specs.Char.{digit_char}
 use Rattle.cm_net.specs.Written.{pair_text, pairs_text}
 use Rattle.cm_net.specs.Mac.{IsPair, IsPairs, colon, hyphen}
-use Rattle.cm_net.specs.MacShape.{HasMacShape, IsPlaced, octet_at}
+use Rattle.cm_net.specs.MacShape.{HasMacShape, FitsPlace, octet_at}
 
 octet_value : (x y : ℕ) → digit_value x * 16 + digit_value y ≡ digits_value 16 (x ∷ y ∷ [])
 octet_value x y = omega arith
@@ -30,7 +30,7 @@ values a b c d e f =
 pub pairs_of_shape : (text : List ℕ) → HasMacShape text
     → IsPairs text (octet_at text 0 ∷ octet_at text 3 ∷ octet_at text 6 ∷ octet_at text 9 ∷ octet_at text 12 ∷ octet_at text 15 ∷ [])
 pairs_of_shape text shape =
-    let at : (place : ℕ) → place < 17 → IsPlaced text place = shape.placed in
+    let at : (place : ℕ) → place < 17 → FitsPlace text place = shape.placed in
     let pair : (place : ℕ) → place + 1 < 17 → place % 3 ≡ 0 → IsPair (get_or text place 0 ∷ get_or text (place + 1) 0 ∷ []) = (λ place within third. record {
       two = refl;
       digits = ((at place (omega arith)).digit (omega arith), ((at (place + 1) within).digit (omega arith), tt));
@@ -63,10 +63,10 @@ of_pair P (x ∷ y ∷ []) pair each = each x y pair.digits.0 pair.digits.1.0
 of_pair P (x ∷ y ∷ z ∷ more) pair each = absurd (let two = pair.two in omega arith)
 
 -- a digit stands where no divider is wanted, and a divider where it is
-digit_here : (text : List ℕ) (place : ℕ) → (place % 3 ≡ 2 → ⊥) → digit_value (get_or text place 0) < 16 → IsPlaced text place
+digit_here : (text : List ℕ) (place : ℕ) → (place % 3 ≡ 2 → ⊥) → digit_value (get_or text place 0) < 16 → FitsPlace text place
 digit_here text place other fits = record { divided = λ third. absurd (other third); digit = λ _. fits }
 
-divider_here : (text : List ℕ) (place : ℕ) → place % 3 ≡ 2 → get_or text place 0 ≡ get_or text 2 0 → IsPlaced text place
+divider_here : (text : List ℕ) (place : ℕ) → place % 3 ≡ 2 → get_or text place 0 ≡ get_or text 2 0 → FitsPlace text place
 divider_here text place third same = record { divided = λ _. same; digit = λ other. absurd (other third) }
 
 -- what the text of six pairs shows: its shape, and the octets
@@ -84,11 +84,11 @@ shown divider a b c d e f divides pa pb pc pd pe pf =
     of_pair (λ e. Shows (spelled divider a b c d e f) (values a b c d e f)) e pe λ e0 e1 he0 he1. let e = e0 ∷ e1 ∷ [] in
     of_pair (λ f. Shows (spelled divider a b c d e f) (values a b c d e f)) f pf λ f0 f1 hf0 hf1. let f = f0 ∷ f1 ∷ [] in
     let text : List ℕ = spelled divider a b c d e f in
-    let P : ℕ → Type 0 = λ place. IsPlaced text place in
+    let P : ℕ → Type 0 = λ place. FitsPlace text place in
     let digit = digit_here text in
     let not_0 : 0 ≡ 2 → ⊥ = (λ (same : 0 ≡ 2). omega arith) in
     let not_1 : 1 ≡ 2 → ⊥ = (λ (same : 1 ≡ 2). omega arith) in
-    let third : (place : ℕ) → place % 3 ≡ 2 → get_or text place 0 ≡ divider → IsPlaced text place = λ place is same. divider_here text place is same in
+    let third : (place : ℕ) → place % 3 ≡ 2 → get_or text place 0 ≡ divider → FitsPlace text place = λ place is same. divider_here text place is same in
     record {
       shape = record {
         size = refl;

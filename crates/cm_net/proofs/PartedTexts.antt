@@ -11,7 +11,7 @@ use Rattle.std.proofs.lemmas.Str.{IsUtf8-from_ascii}
 use Rattle.cm_lists.proofs.Digits.{decimal_digits}
 use Rattle.cm_lists.proofs.Quantifiers.{all_append_right, all_weaker}
 use Rattle.std.specs.Char.{is_ascii_digit}
-use Rattle.cm_net.specs.Parts.{IsLength, IsParted, is_no_slash, slash}
+use Rattle.cm_net.specs.Parts.{IsLength, HasLastSlash, is_no_slash, slash}
 
 -- bytes of which none is a slash
 none_is : (text : List ℕ) → ((k : ℕ) → k < length text → get_or text k 0 ≡ slash → ⊥) → list_all is_no_slash text ≡ true
@@ -24,7 +24,7 @@ none_is (byte ∷ text) none =
 -- a slash after which there is none parts the text
 pub parted_at : (text back : List ℕ) (at : ℕ) → at < length text → get_or text at 0 ≡ slash
     → ((k : ℕ) → at + 1 ≤ k → k < length text → get_or text k 0 ≡ slash → ⊥) → back ≡ drop (at + 1) text
-    → IsParted text (take at text) back
+    → HasLastSlash text (take at text) back
 parted_at text back at within is none same =
     let cut : drop at text ≡ get_or text at 0 ∷ drop (suc at) text = drop-cons text at 0 within in
     let next : drop (suc at) text ≡ back = ap (λ n. drop n text) (sym (add-one at)) ∙ sym same in
@@ -39,7 +39,7 @@ parted_at text back at within is none same =
 
 -- where there is no slash nothing parts the text
 pub not_parted : (text : List ℕ) → ((k : ℕ) → k < length text → get_or text k 0 ≡ slash → ⊥) → (front back : List ℕ)
-    → IsParted text front back → ⊥
+    → HasLastSlash text front back → ⊥
 not_parted text none front back parted =
     let spelled = parted.spelled in
     let size = simp length-append at (ap length spelled) in

@@ -3,8 +3,8 @@ use Rattle.std.specs.Prelude.{ℕ, ◌≡◌, ◌≢◌, ◌+◌, ◌*◌, ◌<�
 use Rattle.std.specs.Char.{digit_value}
 use Rattle.cm_net.specs.Mac.{colon, hyphen}
 
--- a byte of the text at a place: each third is the divider, and the others are hexadecimal digits
-pub record IsPlaced (text : List ℕ) (place : ℕ) : Type 0 where
+-- what is at a place of the text may be there: each third byte is the divider, the others are hexadecimal digits
+pub record FitsPlace (text : List ℕ) (place : ℕ) : Type 0 where
   pub divided : place % 3 ≡ 2 → slice_index text place ≡ slice_index text 2
   pub digit : place % 3 ≢ 2 → digit_value (slice_index text place) < 16
 
@@ -12,7 +12,7 @@ pub record IsPlaced (text : List ℕ) (place : ℕ) : Type 0 where
 pub record HasMacShape (text : List ℕ) : Type 0 where
   pub size : length text ≡ 17
   pub divides : (slice_index text 2 ≡ hyphen) ⊎ (slice_index text 2 ≡ colon)
-  pub placed : (place : ℕ) → place < 17 → IsPlaced text place
+  pub placed : (place : ℕ) → place < 17 → FitsPlace text place
 
 -- the octet that the digits at a place and at the next write
 abbrev pub octet_at : List ℕ → ℕ → ℕ

@@ -16,7 +16,7 @@ abbrev pub is_no_slash : ℕ → Bool
 is_no_slash byte = not (byte == slash)
 
 -- the text is what is before its last slash, that slash, and what is after it
-pub record IsParted (text front back : List ℕ) : Type 0 where
+pub record HasLastSlash (text front back : List ℕ) : Type 0 where
   pub spelled : text ≡ front ++ slash ∷ back
   pub last : list_all is_no_slash back ≡ true
 
@@ -25,12 +25,14 @@ pub record IsLength (limit : ℕ) (text : List ℕ) (length : ℕ) : Type 0 wher
   pub within : length ≤ limit
   pub spelled : text ≡ decimal length
 
--- an address as this family writes it, a slash, and a length within the limit
-pub record IsPrefixText {A : Type 0} (IsAddressText : List ℕ → A → Type 0) (limit : ℕ) (text : List ℕ) (address : A) (length : ℕ) : Type 0 where
+-- an address in a text of its family, a slash, and a length
+pub record IsPrefixText {A : Type 0} (Writes : List ℕ → A → Type 0) (limit : ℕ) (text : List ℕ) (address : A) (length : ℕ)
+    : Type 0 where
   pub front : List ℕ
-  pub spelled : text ≡ front ++ slash ∷ decimal length
-  pub written : IsAddressText front address
-  pub within : length ≤ limit
+  pub back : List ℕ
+  pub spelled : text ≡ front ++ slash ∷ back
+  pub before : Writes front address
+  pub after : IsLength limit back length
 
 -- the text is an IPv4 address, a slash and a length
 abbrev pub IsIpv4Parts : List ℕ → Ipv4Addr → ℕ → Type 0

@@ -34,11 +34,11 @@ pub fn a_text_has_one_value()
         → IsIpv4Text text other → address ≡ other }
     ensures ipv6 { (text : List ℕ) → (address other : Ipv6Addr) → IsIpv6Text text address
         → IsIpv6Text text other → address ≡ other }
-    ensures ipv4_prefixes { (text : List ℕ) → (prefix other : Ipv4Prefix) → IsIpv4PrefixText text prefix
-        → IsIpv4PrefixText text other
+    ensures ipv4_prefixes { (text : List ℕ) → (prefix other : Ipv4Prefix)
+        → IsIpv4PrefixText text prefix → IsIpv4PrefixText text other
         → (prefix.address ≡ other.address) × (prefix.prefix_length ≡ other.prefix_length) }
-    ensures ipv6_prefixes { (text : List ℕ) → (prefix other : Ipv6Prefix) → IsIpv6PrefixText text prefix
-        → IsIpv6PrefixText text other
+    ensures ipv6_prefixes { (text : List ℕ) → (prefix other : Ipv6Prefix)
+        → IsIpv6PrefixText text prefix → IsIpv6PrefixText text other
         → (prefix.address ≡ other.address) × (prefix.prefix_length ≡ other.prefix_length) }
     ensures macs { (text : List ℕ) → (mac other : Mac) → IsMacText text mac → IsMacText text other
         → mac ≡ other }
@@ -58,8 +58,8 @@ pub fn the_first_of_the_longest_runs_is_left_out()
     ensures zeros { (segments : List ℕ) → let run = longest_zero_run segments in
         (run.0 + run.1 ≤ length segments) × (take run.1 (drop run.0 segments) ≡ replicate run.1 0) }
     ensures first { (segments : List ℕ) → (start size : ℕ) → start + size ≤ length segments
-        → take size (drop start segments) ≡ replicate size 0 → let run = longest_zero_run segments in
-        (size ≤ run.1) × (size ≡ run.1 → run.0 ≤ start) }
+        → take size (drop start segments) ≡ replicate size 0
+        → let run = longest_zero_run segments in (size ≤ run.1) × (size ≡ run.1 → run.0 ≤ start) }
 {}
 
 /// A prefix has at most 32 bits of IPv4 and 128 of IPv6, and a text that is written has at most 43 bytes.

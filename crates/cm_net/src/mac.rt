@@ -2,7 +2,7 @@
 ghost use Rattle.std.specs.Prelude.{◌≡◌, ◌%◌, ◌<◌, ◌⊎◌, ◌↔◌, ℕ, List, IsTrue, MatchOption, length};
 ghost use Rattle.std.specs.Char.{digit_value};
 ghost use Rattle.cm_net.specs.Mac.{IsMacText, IsPairs, colon, hyphen};
-ghost use Rattle.cm_net.specs.MacShape.{HasMacShape, IsPlaced, octet_at};
+ghost use Rattle.cm_net.specs.MacShape.{HasMacShape, FitsPlace, octet_at};
 ghost use Rattle.cm_net.specs.Reads.{Reads};
 
 /// A MAC address, an EUI-48 of IEEE 802: six octets, in the order in which they are written.
@@ -27,7 +27,8 @@ impl Mac {
 // The octets that six pairs of hexadecimal digits write.
 #[tactic(auto, using(crate::proofs::MacTexts::pairs_of_shape))]
 fn read_octets(text: &[u8]) -> Option<[u8; 6]>
-    ensures { MatchOption result ((octets : List ℕ) → ¬ (IsPairs text.now octets)) (IsPairs text.now) }
+    ensures { MatchOption result ((octets : List ℕ) → ¬ (IsPairs text.now octets))
+        (IsPairs text.now) }
 {
     if !has_mac_shape(text) {
         return None;
@@ -50,7 +51,7 @@ fn has_mac_shape(text: &[u8]) -> bool
         return false;
     }
     for place in 0..17 {
-        if !is_placed(text, place) {
+        if !fits_place(text, place) {
             return false;
         }
     }
@@ -65,10 +66,10 @@ fn is_divider(byte: u8) -> bool
 }
 
 // Whether the byte at a place may be there.
-fn is_placed(text: &[u8], place: usize) -> bool
+fn fits_place(text: &[u8], place: usize) -> bool
     requires size { length text.now ≡ 17 }
     requires within { place < 17 }
-    ensures { IsTrue result ↔ IsPlaced text.now place }
+    ensures { IsTrue result ↔ FitsPlace text.now place }
 {
     if place % 3 == 2 {
         text[place] == text[2]

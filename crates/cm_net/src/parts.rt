@@ -1,6 +1,6 @@
 // The parts of a prefix: the address before the last slash, and the length after it.
 ghost use Rattle.std.specs.Prelude.{◌≡◌, ℕ, List, MatchOption};
-ghost use Rattle.cm_net.specs.Parts.{IsIpv4Parts, IsIpv6Parts, IsLength, IsParted};
+ghost use Rattle.cm_net.specs.Parts.{IsIpv4Parts, IsIpv6Parts, IsLength, HasLastSlash};
 ghost use Rattle.cm_net.specs.Reads.{Reads};
 
 use crate::address::{parse_ipv4, parse_ipv6};
@@ -35,8 +35,8 @@ pub(crate) fn ipv6_parts(text: &[u8]) -> Option<(Ipv6Addr, u8)>
 
 // What is before the last slash of a text, and what is after it.
 fn parts(text: &[u8]) -> Option<(&[u8], &[u8])>
-    ensures { MatchOption result ((front back : List ℕ) → ¬ (IsParted text.now front back))
-        (λ parts. IsParted text.now parts.0.now parts.1.now) }
+    ensures { MatchOption result ((front back : List ℕ) → ¬ (HasLastSlash text.now front back))
+        (λ parts. HasLastSlash text.now parts.0.now parts.1.now) }
 {
     for at in (0..text.len()).rev() {
         if text[at] == b'/' {

@@ -95,7 +95,8 @@ fn longest_zero_run(segments: &[u16]) -> (usize, usize)
 fn push_groups(text: &mut AddressText, segments: &[u16])
     requires { array_string_len text.old + 5 * length segments.now ≤ ADDRESS_TEXT_LIMIT }
     ensures bytes { text.new.bytes ≡ text.old.bytes ++ texts.groups_text segments.now }
-    ensures size { array_string_len text.new ≤ array_string_len text.old + (5 * length segments.now - 1) }
+    ensures size { array_string_len text.new
+        ≤ array_string_len text.old + (5 * length segments.now - 1) }
 {
     if let [first, rest @ ..] = segments {
         push_hex(text, *first);
@@ -107,7 +108,8 @@ fn push_groups(text: &mut AddressText, segments: &[u16])
 #[tactic(auto, using(crate::proofs::Sizes::hex_fits))]
 fn push_more_groups(text: &mut AddressText, segments: &[u16])
     requires { array_string_len text.old + 5 * length segments.now ≤ ADDRESS_TEXT_LIMIT }
-    ensures bytes { text.new.bytes ≡ text.old.bytes ++ flat_map (λ t. codes ":" ++ texts.hex t) segments.now }
+    ensures bytes { text.new.bytes
+        ≡ text.old.bytes ++ flat_map (λ t. codes ":" ++ texts.hex t) segments.now }
     ensures size { array_string_len text.new ≤ array_string_len text.old + 5 * length segments.now }
 {
     for segment in segments {

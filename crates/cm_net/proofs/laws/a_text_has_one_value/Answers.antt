@@ -11,8 +11,8 @@ returns c = record {
   ipv4 = IsIpv4Text_unique;
   ipv6 = IsIpv6Text_unique;
   ipv4_prefixes = λ text prefix other is also.
-      one_prefix IsIpv4Text IPV4_LENGTH_LIMIT (lit< tt) IsIpv4Text_unique text prefix.address other.address prefix.prefix_length other.prefix_length is also;
+      one_prefix IsIpv4Text IPV4_LENGTH_LIMIT (lit< tt) text IsIpv4Text_unique prefix.address other.address prefix.prefix_length other.prefix_length is also;
   ipv6_prefixes = λ text prefix other is also.
-      one_prefix IsIpv6Text IPV6_LENGTH_LIMIT (lit< tt) IsIpv6Text_unique text prefix.address other.address prefix.prefix_length other.prefix_length is also;
+      one_prefix IsIpv6Text IPV6_LENGTH_LIMIT (lit< tt) text IsIpv6Text_unique prefix.address other.address prefix.prefix_length other.prefix_length is also;
   macs = λ text mac other is also. λ i. record { octets = one_mac text mac.octets other.octets is also i };
 }

@@ -8,6 +8,6 @@ pub returns : goal.returns
 returns c = record {
   addresses = λ text address is. one_dotted text (ipv4_octets address) is;
   prefixes = λ text prefix is.
-      is.spelled
-      ∙ ap (λ (it : List ℕ). it ++ slash ∷ decimal prefix.prefix_length) (one_dotted is.front (ipv4_octets prefix.address) is.written);
+      is.spelled ∙ ap (λ (it : List ℕ). is.front ++ slash ∷ it) is.after.spelled
+      ∙ ap (λ (it : List ℕ). it ++ slash ∷ decimal prefix.prefix_length) (one_dotted is.front (ipv4_octets prefix.address) is.before);
 }
