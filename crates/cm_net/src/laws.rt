@@ -9,6 +9,7 @@ ghost use Rattle.cm_net.specs.Mac.{IsMacText};
 ghost use Rattle.cm_net.specs.Prefix.{IsIpv4PrefixText, IsIpv6PrefixText};
 ghost use Rattle.cm_net.specs.Written.{ipv4_prefix_text, ipv6_prefix_text, mac_text};
 ghost use Rattle.cm_net.specs.declared.mac.Mac.{Mac};
+ghost use Rattle.cm_net.specs.declared.mac.TheConstants.{MAC_TEXT_SIZE};
 ghost use Rattle.cm_net.specs.declared.prefix.Ipv4Prefix.{Ipv4Prefix};
 ghost use Rattle.cm_net.specs.declared.prefix.Ipv6Prefix.{Ipv6Prefix};
 ghost use Rattle.cm_net.specs.declared.prefix.TheConstants.{IPV4_LENGTH_LIMIT, IPV6_LENGTH_LIMIT};
@@ -62,9 +63,11 @@ pub fn the_first_of_the_longest_runs_is_left_out()
         → let run = longest_zero_run segments in (size ≤ run.1) × (size ≡ run.1 → run.0 ≤ start) }
 {}
 
-/// A prefix has at most 32 bits of IPv4 and 128 of IPv6, and a text that is written has at most 43 bytes.
+/// A prefix has at most 32 bits of IPv4 and 128 of IPv6, a text of a MAC address has 17 bytes, and any text that is
+/// written at most 43.
 pub fn these_are_the_numbers()
     ensures ipv4 { IPV4_LENGTH_LIMIT ≡ 32 }
     ensures ipv6 { IPV6_LENGTH_LIMIT ≡ 128 }
+    ensures macs { MAC_TEXT_SIZE ≡ 17 }
     ensures texts { ADDRESS_TEXT_LIMIT ≡ 43 }
 {}

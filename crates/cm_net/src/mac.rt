@@ -5,6 +5,9 @@ ghost use Rattle.cm_net.specs.Mac.{IsMacText, IsPairs, colon, hyphen};
 ghost use Rattle.cm_net.specs.MacShape.{HasMacShape, FitsPlace, octet_at};
 ghost use Rattle.cm_net.specs.Reads.{Reads};
 
+/// The bytes of a text of a MAC address.
+pub const MAC_TEXT_SIZE: usize = 17;
+
 /// A MAC address, an EUI-48 of IEEE 802: six octets, in the order in which they are written.
 #[derive(Clone, Copy, Debug, PartialEq, Eq)]
 pub struct Mac {
@@ -47,10 +50,10 @@ fn read_octets(text: &[u8]) -> Option<[u8; 6]>
 fn has_mac_shape(text: &[u8]) -> bool
     ensures { IsTrue result ↔ HasMacShape text.now }
 {
-    if text.len() != 17 || !is_divider(text[2]) {
+    if text.len() != MAC_TEXT_SIZE || !is_divider(text[2]) {
         return false;
     }
-    for place in 0..17 {
+    for place in 0..MAC_TEXT_SIZE {
         if !fits_place(text, place) {
             return false;
         }
@@ -67,8 +70,8 @@ fn is_divider(byte: u8) -> bool
 
 // Whether the byte at a place may be there.
 fn fits_place(text: &[u8], place: usize) -> bool
-    requires size { length text.now ≡ 17 }
-    requires within { place < 17 }
+    requires size { length text.now ≡ MAC_TEXT_SIZE }
+    requires within { place < MAC_TEXT_SIZE }
     ensures { IsTrue result ↔ FitsPlace text.now place }
 {
     if place % 3 == 2 {

@@ -3,6 +3,7 @@ ghost use Rattle.std.specs.Prelude.{◌≡◌, ◌≤◌, length};
 ghost use Rattle.std.specs.Net.Addr.{ipv4_octets, ipv6_segments};
 ghost use Rattle.std.specs.Net.Text as texts;
 ghost use Rattle.cm_net.specs.Written.{ipv4_prefix_text, ipv6_prefix_text, mac_text};
+ghost use Rattle.cm_net.specs.declared.mac.TheConstants.{MAC_TEXT_SIZE};
 
 use crate::mac::Mac;
 use crate::pieces::{push_dotted, push_ipv6, push_number, push_pairs};
@@ -55,7 +56,7 @@ impl Ipv6Prefix {
     /// The text of a prefix, of at most 43 bytes: its address, a slash and its length.
     pub fn text(&self) -> AddressText
         ensures text { result.bytes ≡ ipv6_prefix_text self.now }
-        ensures size { length result.bytes ≤ 43 }
+        ensures size { length result.bytes ≤ ADDRESS_TEXT_LIMIT }
     {
         let mut text = ipv6_text(self.address);
         text.push_str("/");
@@ -68,7 +69,7 @@ impl Mac {
     /// The text of a MAC address, of 17 bytes: hexadecimal digits in lower case, with colons between the pairs.
     pub fn text(&self) -> AddressText
         ensures text { result.bytes ≡ mac_text self.now }
-        ensures size { length result.bytes ≡ 17 }
+        ensures size { length result.bytes ≡ MAC_TEXT_SIZE }
     {
         let mut text = AddressText::new();
         push_pairs(&mut text, self.octets);
