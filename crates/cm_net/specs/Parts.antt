@@ -26,8 +26,8 @@ pub record IsLength (limit : ℕ) (text : List ℕ) (length : ℕ) : Type 0 wher
   pub spelled : text ≡ decimal length
 
 -- an address in a text of its family, a slash, and a length
-pub record IsPrefixText {A : Type 0} (Writes : List ℕ → A → Type 0) (limit : ℕ) (text : List ℕ) (address : A) (length : ℕ)
-    : Type 0 where
+pub record IsPrefixText {A : Type 0} (Writes : List ℕ → A → Type 0) (limit : ℕ) (text : List ℕ) (address : A)
+    (length : ℕ) : Type 0 where
   pub front : List ℕ
   pub back : List ℕ
   pub spelled : text ≡ front ++ slash ∷ back

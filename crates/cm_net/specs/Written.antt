@@ -25,9 +25,9 @@ pair_text octet = digit_char (octet / 16) ∷ digit_char (octet % 16) ∷ []
 -- six octets in pairs of digits, with colons between them
 abbrev pub pairs_text : List ℕ → List ℕ
 pairs_text octets =
-    pair_text (slice_index octets 0) ++ colon ∷ pair_text (slice_index octets 1) ++ colon ∷ pair_text (slice_index octets 2)
-    ++ colon ∷ pair_text (slice_index octets 3) ++ colon ∷ pair_text (slice_index octets 4)
-    ++ colon ∷ pair_text (slice_index octets 5)
+    pair_text (slice_index octets 0) ++ colon ∷ pair_text (slice_index octets 1)
+    ++ colon ∷ pair_text (slice_index octets 2) ++ colon ∷ pair_text (slice_index octets 3)
+    ++ colon ∷ pair_text (slice_index octets 4) ++ colon ∷ pair_text (slice_index octets 5)
 
 -- those of a MAC address
 abbrev pub mac_text : Mac → List ℕ

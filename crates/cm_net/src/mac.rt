@@ -11,6 +11,7 @@ pub const MAC_TEXT_SIZE: usize = 17;
 /// A MAC address, an EUI-48 of IEEE 802: six octets, in the order in which they are written.
 #[derive(Clone, Copy, Debug, PartialEq, Eq)]
 pub struct Mac {
+    /// The octets.
     pub octets: [u8; 6],
 }
 

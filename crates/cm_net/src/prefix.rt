@@ -16,6 +16,7 @@ pub const IPV6_LENGTH_LIMIT: u8 = 128;
 /// interface are (10.0.0.1/8).
 #[derive(Clone, Copy, Debug, PartialEq, Eq)]
 pub struct Ipv4Prefix {
+    /// The address.
     pub address: Ipv4Addr,
     /// How many of the first bits of the address are the prefix.
     pub prefix_length: u8,
@@ -52,6 +53,7 @@ impl Ipv4Prefix {
 /// An IPv6 address and the length of a prefix of it, in bits. Bits behind the prefix may be set.
 #[derive(Clone, Copy, Debug, PartialEq, Eq)]
 pub struct Ipv6Prefix {
+    /// The address.
     pub address: Ipv6Addr,
     /// How many of the first bits of the address are the prefix.
     pub prefix_length: u8,
