@@ -1,9 +1,10 @@
 -- Bytes put one piece after another, and counts of faults that rise.
-use Rattle.std.proofs.Common.{◌≡◌, ℕ, ◌-◌, ◌^◌, ◌≤◌, List, [], ◌++◌, length, take, drop, refl, ap, sym, ◌∙◌, arith, append_assoc, length-append}
+use Rattle.std.proofs.Common.{◌≡◌, ℕ, ◌-◌, ◌^◌, ◌≤◌, List, [], ◌++◌, length, take, drop, refl, ap, sym, subst, ◌∙◌, arith, append_assoc, length-append}
 use Rattle.std.proofs.lemmas.List.{append-nil, take-append-drop}
 use Rattle.cm_lists.proofs.Numbers.{max_min_add}
 use Rattle.cm_io.specs.Contents.{Contents, Nothing, Number, Bytes, add, AddsPart}
-use Rattle.cm_io.specs.Fault.{Rose}
+use Rattle.cm_io.specs.declared.sink.Put.{Put}
+use Rattle.cm_io.specs.Fault.{PutCause, Rose}
 
 -- no bytes add nothing
 pub add_none : (contents : Contents) → add contents [] ≡ contents
@@ -51,6 +52,10 @@ pub adds_between : (before now : Contents) (first second third : List ℕ) → A
     → AddsPart before now ((first ++ second) ++ third)
 adds_between before now first second third adds = adds_early before now (first ++ second) third
     (adds_late before now first second adds)
+
+-- a count that stayed, and then is as a later put says
+pub cause_both : (a b c : ℕ) (outcome : Put) → b ≡ a → PutCause b c outcome → PutCause a c outcome
+cause_both a b c outcome stays cause = subst (λ n. PutCause n c outcome) stays cause
 
 -- a count that rose has risen also later
 pub rose_early : (before middle now : ℕ) → Rose before middle → middle ≤ now → Rose before now

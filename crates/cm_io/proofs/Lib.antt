@@ -2,3 +2,4 @@ pub mod Additions
 mod Appends
 mod Repeats
 pub mod Texts
+pub mod Writers

@@ -6,91 +6,90 @@
 -- each. The premise of the last text is first in writes_both: in the other order three pieces stay open. Writes has
 -- the ghost name of the borrow in it (same), so each function must say it; only the search, and no answer by hand, can
 -- name the sink.
-use Rattle.std.proofs.Common.{◌≡◌, ℕ, ◌+◌, ◌<◌, ◌≤◌, List, [], ◌∷◌, ◌++◌, length, take, get_or, map, refl, ap, sym, subst, ◌∙◌, arith, append_assoc}
+use Rattle.std.proofs.Common.{arith, ◌≤◌, ◌≡◌, ℕ, ◌+◌, ◌<◌, List, [], ◌∷◌, ◌++◌, length, take, get_or, map, refl, ap, sym, subst, ◌∙◌, append_assoc}
 use Rattle.std.proofs.lemmas.List.{append-nil, map-append, take_more}
 use Rattle.std.proofs.lemmas.Grind.{flat_map-append}
-use Rattle.cm_io.specs.declared.sink.Put.{Put}
-use Rattle.cm_io.specs.declared.sink.Put.TheVariants.{Done, Failed}
 use Rattle.cm_io.specs.declared.sink.Sink.{Ghosts}
 use Rattle.cm_io.specs.declared.writer.Writer.{Writer}
-use Rattle.cm_io.specs.Contents.{Contents, Adds, AddsPart, add}
-use Rattle.cm_io.specs.Fault.{PutCause, Rose}
-use Rattle.cm_io.specs.Writer.{Outlet, Puts, PutsOn, Writes, outlet}
+use Rattle.cm_io.specs.declared.sink.Put.{Put}
+use Rattle.cm_io.specs.declared.sink.Put.TheVariants.{Done, Failed}
+use Rattle.cm_io.specs.Contents.{add}
+use Rattle.cm_io.specs.Fault.{PutCause}
+use Rattle.cm_io.specs.Writer.{Gives, Holds, Outlet, PutsOn, Rests, Writes, outlet}
+use Rattle.cm_io.proofs.Additions.{add_append, add_none}
 pub use Rattle.cm_io.specs.Writer.{Left}
 use Rattle.std.specs.List.{flat_map}
 use Rattle.cm_text.specs.ScreenBytes.{end_of_line}
 use Rattle.cm_io.specs.Pieces.{shown_line, shown_lines, times}
 use Rattle.cm_io.proofs.Repeats.{times_none, times_more}
-use Rattle.cm_io.proofs.Additions.{add_none, add_append, adds_early, adds_late}
 
--- a text put after one that was put
-adds_both : (a b c : Contents) (first second : List ℕ) (outcome : Put) → b ≡ add a first → Adds b c second outcome
-    → Adds a c (first ++ second) outcome
-adds_both a b c first second Done put adds = adds ∙ ap (λ contents. add contents second) put ∙ sym (add_append a first second)
-adds_both a b c first second Failed put adds =
-    adds_late a c first second (subst (λ contents. AddsPart contents c second) put adds)
+-- both texts, where the first is given or held
+gives_both : (a b c : Outlet) (first second : List ℕ) (middle : Put) → b.outcome ≡ middle → PutsOn middle b c second
+    → Gives a b first → Gives a c (first ++ second)
+gives_both a b c first second Done is late early =
+    let held : early.rest ≡ b.held = subst (λ outcome. Holds outcome early.rest b.held) is early.holds in
+    let stays : b.faults ≡ a.faults = subst (λ outcome. PutCause a.faults b.faults outcome) is early.cause in
+    record {
+      given = early.given ++ late.given;
+      rest = late.rest;
+      joined = append_assoc early.given late.given late.rest
+          ∙ ap (λ bytes. early.given ++ bytes) (late.joined ∙ ap (λ bytes. bytes ++ second) (sym held))
+          ∙ sym (append_assoc early.given early.rest second) ∙ ap (λ bytes. bytes ++ second) early.joined
+          ∙ append_assoc a.held first second;
+      added = late.added ∙ ap (λ contents. add contents late.given) early.added
+          ∙ sym (add_append a.contents early.given late.given);
+      rise = subst (λ n. n ≤ c.faults) stays late.rise;
+      cause = subst (λ n. PutCause n c.faults c.outcome) stays late.cause;
+      holds = late.holds;
+    }
+gives_both a b c first second Failed is late early =
+    let failed : PutCause a.faults b.faults c.outcome =
+    subst (λ outcome. PutCause a.faults b.faults outcome) (is ∙ sym late.outcome) early.cause in
+    record {
+      given = early.given;
+      rest = early.rest ++ second;
+      joined = sym (append_assoc early.given early.rest second) ∙ ap (λ bytes. bytes ++ second) early.joined
+          ∙ append_assoc a.held first second;
+      added = late.contents ∙ early.added;
+      rise = subst (λ n. a.faults ≤ n) (sym late.faults) early.rise;
+      cause = subst (λ n. PutCause a.faults n c.outcome) (sym late.faults) failed;
+      holds = rw late.outcome tt;
+    }
 
--- a count that stayed, and then is as the second put says
-pub cause_both : (a b c : ℕ) (outcome : Put) → b ≡ a → PutCause b c outcome → PutCause a c outcome
-cause_both a b c outcome stays cause = subst (λ n. PutCause n c outcome) stays cause
-
--- both texts, by how the first went and how the second did
-puts_both : (a b c : Outlet) (first second : List ℕ) → PutsOn b.outcome b c second → PutsOn a.outcome a b first
-    → PutsOn a.outcome a c (first ++ second)
-puts_both a b c first second late early = by a.outcome b.outcome refl refl late early
-  where
-    whole : b.outcome ≡ Done → Puts b c second → Puts a b first → Puts a c (first ++ second)
-    whole done more puts =
-        let put : b.contents ≡ add a.contents first = subst (λ outcome. Adds a.contents b.contents first outcome) done puts.bytes in
-        let stays : b.faults ≡ a.faults = subst (λ outcome. PutCause a.faults b.faults outcome) done puts.cause in
-        record {
-          bytes = adds_both a.contents b.contents c.contents first second c.outcome put more.bytes;
-          later = subst (λ n. n ≤ c.faults) stays more.later;
-          cause = cause_both a.faults b.faults c.faults c.outcome stays more.cause;
-        }
-
-    part : b.outcome ≡ Failed → c ≡ b → Puts a b first → Puts a c (first ++ second)
-    part failed same puts =
-        let added : AddsPart a.contents b.contents first = subst (λ outcome. Adds a.contents b.contents first outcome) failed puts.bytes in
-        let rose : Rose a.faults b.faults = subst (λ outcome. PutCause a.faults b.faults outcome) failed puts.cause in
-        let bytes : Adds a.contents b.contents (first ++ second) b.outcome =
-        subst (λ outcome. Adds a.contents b.contents (first ++ second) outcome) (sym failed)
-        (adds_early a.contents b.contents first second added) in
-        subst (λ (at : Outlet). Puts a at (first ++ second)) (sym same)
-        (record { bytes = bytes; later = puts.later; cause = puts.cause })
-
-    none : (middle : Put) → a.outcome ≡ Failed → b.outcome ≡ middle → PutsOn middle b c second → b ≡ a → c ≡ a
-    none middle was is more same =
-        let failed : middle ≡ Failed = sym is ∙ ap (λ (at : Outlet). at.outcome) same ∙ was in
-        let stays : c ≡ b = subst (λ outcome. PutsOn outcome b c second) failed more in
-        stays ∙ same
-
-    by : (before middle : Put) → a.outcome ≡ before → b.outcome ≡ middle → PutsOn middle b c second → PutsOn before a b first
-        → PutsOn before a c (first ++ second)
-    by Done Done was is more puts = whole is more puts
-    by Done Failed was is same puts = part is same puts
-    by Failed middle was is more same = none middle was is more same
+puts_both : (a b c : Outlet) (first second : List ℕ) (before : Put) → PutsOn b.outcome b c second
+    → PutsOn before a b first → PutsOn before a c (first ++ second)
+puts_both a b c first second Done late early = gives_both a b c first second b.outcome refl late early
+puts_both a b c first second Failed late early =
+    let rests : Rests b c = subst (λ outcome. PutsOn outcome b c second) early.outcome late in
+    record {
+      contents = rests.contents ∙ early.contents;
+      faults = rests.faults ∙ early.faults;
+      outcome = rests.outcome;
+    }
 
 -- two texts, one after the other
 pub writes_both : {T : Type 0} (s : Ghosts T) (a b c : Writer T) (first second : List ℕ) → Writes s b c second
     → Writes s a b first → Writes s a c (first ++ second)
 writes_both s a b c first second late early = record {
   same = late.same ∙ early.same;
-  puts = puts_both (outlet s a) (outlet s b) (outlet s c) first second late.puts early.puts;
+  puts = puts_both (outlet s a) (outlet s b) (outlet s c) first second a.outcome late.puts early.puts;
 }
+
+puts_none : (at : Outlet) (outcome : Put) → at.outcome ≡ outcome → PutsOn outcome at at []
+puts_none at Done is = record {
+  given = [];
+  rest = at.held;
+  joined = sym (append-nil at.held);
+  added = sym (add_none at.contents);
+  rise = omega arith;
+  cause = rw is refl;
+  holds = rw is refl;
+}
+puts_none at Failed is = record { contents = refl; faults = refl; outcome = is }
 
 -- no text
 pub writes_none : {T : Type 0} (s : Ghosts T) (a : Writer T) → Writes s a a []
-writes_none s a = record { same = refl; puts = by a.outcome refl }
-  where
-    by : (outcome : Put) → a.outcome ≡ outcome → PutsOn outcome (outlet s a) (outlet s a) []
-    by Done is = record {
-      bytes = subst (λ outcome. Adds (outlet s a).contents (outlet s a).contents [] outcome) (sym is)
-          (sym (add_none (outlet s a).contents));
-      later = omega arith;
-      cause = subst (λ outcome. PutCause (outlet s a).faults (outlet s a).faults outcome) (sym is) refl;
-    }
-    by Failed is = refl
+writes_none s a = record { same = refl; puts = puts_none (outlet s a) a.outcome refl }
 
 -- the text of one element more, after those of the elements before it
 pub writes_each : {T A : Type 0} (s : Ghosts T) (a b c : Writer T) (f : A → List ℕ) (xs : List A) (i : ℕ) (d : A)

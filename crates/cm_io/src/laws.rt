@@ -6,6 +6,7 @@ ghost use Rattle.cm_io.specs.Memory.{HostCounts, SinkState, SourceCounts, Source
 ghost use Rattle.cm_io.specs.Contents.{Bytes, Number};
 
 use crate::mem_host::FILE_NAME_LIMIT;
+use crate::page::PAGE_LIMIT;
 use crate::words::{LONGEST_WORD, MOST_WORDS};
 use crate::{
     Clock, CountSink, Host, MemClock, MemHost, MemSink, MemSource, Sink, Source, StdHost, StdLog,
@@ -49,10 +50,11 @@ pub fn objects_in_memory_tell_what_they_hold()
 {}
 
 /// The numbers of this crate: the most bytes of a file's name that a host in memory takes, the most words of a program
-/// and bytes of a word, and where counts stay.
+/// and bytes of a word, the bytes of a page of a writer, and where counts stay.
 pub fn these_are_the_numbers()
     ensures name { FILE_NAME_LIMIT ≡ 255 }
     ensures words { MOST_WORDS ≡ 4 }
     ensures word { LONGEST_WORD ≡ 255 }
+    ensures page { PAGE_LIMIT ≡ 256 }
     ensures count { last_count ≡ 18446744073709551615 }
 {}

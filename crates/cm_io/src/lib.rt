@@ -37,7 +37,6 @@ pub use mem_host::{FILE_NAME_LIMIT, MemHost};
 pub use mem_sink::MemSink;
 pub use mem_source::MemSource;
 pub use no_memory::NoMemory;
-pub use page::{PAGE_LIMIT, Page};
 pub use pieces::{put_decimal, put_hex, put_line};
 pub use sink::{Put, Sink};
 pub use source::{Got, Source};

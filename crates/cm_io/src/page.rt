@@ -1,19 +1,17 @@
-// A page: bytes that are gathered, and then put at once.
+// A page: bytes that are held, and then put at once.
 ghost use Rattle.std.specs.Prelude.{◌≡◌, ◌+◌, ◌<◌, ◌≤◌, ◌++◌, ◌∷◌, [], length};
 ghost use Rattle.std.specs.Fmt.{decimal};
-ghost use Rattle.cm_io.specs.Pieces.{hex};
 
-use crate::pieces::hex_digits;
 use arrayvec::ArrayVec;
 use cm_text::DIGIT_LIMIT;
 use std::marker::Model;
 
-/// The most bytes of a page.
-pub const PAGE_LIMIT: usize = 256;
+// The most bytes of a page.
+pub(crate) const PAGE_LIMIT: usize = 256;
 
-/// Bytes that are gathered to be put at once, at most 256. Contracts see them.
+// Bytes that are held to be put at once, at most 256. Contracts see them.
 #[derive(Drop)]
-pub struct Page {
+pub(crate) struct Page {
     bytes: ArrayVec<u8, PAGE_LIMIT>,
 }
 
@@ -26,8 +24,8 @@ impl Model for Page {
 }
 
 impl Page {
-    /// A page with no bytes.
-    pub fn new() -> Page
+    // A page with no bytes.
+    pub(crate) fn new() -> Page
         ensures { result ≡ [] }
     {
         Page {
@@ -35,50 +33,41 @@ impl Page {
         }
     }
 
-    /// The bytes.
-    pub fn as_slice(&self) -> &[u8]
+    // The bytes.
+    pub(crate) fn as_slice(&self) -> &[u8]
         ensures value { result.now ≡ self.now }
         ensures within { length result.now ≤ PAGE_LIMIT }
     {
         self.bytes.as_slice()
     }
 
-    /// How many more bytes fit.
-    pub fn room(&self) -> usize
+    // How many more bytes fit.
+    pub(crate) fn room(&self) -> usize
         ensures { result + length self.now ≡ PAGE_LIMIT }
     {
         self.bytes.remaining_capacity()
     }
 
-    /// Takes all bytes from the page.
-    pub fn clear(&mut self)
+    // Takes all bytes from the page.
+    pub(crate) fn clear(&mut self)
         ensures { self.new ≡ [] }
     {
         self.bytes.clear();
     }
 
-    /// Puts some bytes after the others. There must be room.
+    // Puts some bytes after the others. There must be room.
     #[inline]
-    pub fn put(&mut self, bytes: &[u8])
+    pub(crate) fn put(&mut self, bytes: &[u8])
         requires { length self.old + length bytes.now ≤ PAGE_LIMIT }
         ensures { self.new ≡ self.old ++ bytes.now }
     {
         let _ = self.bytes.try_extend_from_slice(bytes);
     }
 
-    /// Puts the two hexadecimal digits of a byte after the others, letters in lower case. There must be room.
-    pub fn put_hex(&mut self, byte: u8)
-        requires { length self.old + 2 ≤ PAGE_LIMIT }
-        ensures value { self.new ≡ self.old ++ hex byte }
-        ensures size { length self.new ≡ length self.old + 2 }
-    {
-        self.put(&hex_digits(byte));
-    }
-
-    /// Puts the decimal digits of a number after the others, with no zero before them. There must be room for the
-    /// longest number.
+    // Puts the decimal digits of a number after the others, with no zero before them. There must be room for the
+    // longest number.
     #[tactic(auto, using(cm_lists::proofs::Digits::decimal_fits))]
-    pub fn put_decimal(&mut self, number: u64)
+    pub(crate) fn put_decimal(&mut self, number: u64)
         requires { length self.old + DIGIT_LIMIT ≤ PAGE_LIMIT }
         ensures value { self.new ≡ self.old ++ decimal number }
         ensures size { length (decimal number) ≤ DIGIT_LIMIT }

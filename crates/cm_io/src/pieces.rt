@@ -9,6 +9,7 @@ ghost use Rattle.cm_io.specs.Pieces.{hex, hex_digit};
 use crate::{Put, Sink, Writer};
 
 /// Puts some bytes and the end of their line, CR and LF.
+#[tactic(auto, using(crate::proofs::Writers::finish_puts))]
 pub fn put_line<S: Sink>(bytes: &[u8], sink: &mut S) -> Put
     ensures bytes { Adds (S.contents sink.old) (S.contents sink.new) (bytes.now ++ end_of_line) result }
     ensures later { S.faults sink.old ≤ S.faults sink.new }
@@ -16,10 +17,11 @@ pub fn put_line<S: Sink>(bytes: &[u8], sink: &mut S) -> Put
 {
     let mut out = Writer::new(sink);
     out.put_line(bytes);
-    out.outcome()
+    out.finish()
 }
 
 /// Puts the decimal digits of a number, with no zero before them.
+#[tactic(auto, using(crate::proofs::Writers::finish_puts))]
 pub fn put_decimal<S: Sink>(number: u64, sink: &mut S) -> Put
     ensures bytes { Adds (S.contents sink.old) (S.contents sink.new) (decimal number) result }
     ensures later { S.faults sink.old ≤ S.faults sink.new }
@@ -27,10 +29,11 @@ pub fn put_decimal<S: Sink>(number: u64, sink: &mut S) -> Put
 {
     let mut out = Writer::new(sink);
     out.put_decimal(number);
-    out.outcome()
+    out.finish()
 }
 
 /// Puts the two hexadecimal digits of a byte, letters in lower case.
+#[tactic(auto, using(crate::proofs::Writers::finish_puts))]
 pub fn put_hex<S: Sink>(byte: u8, sink: &mut S) -> Put
     ensures bytes { Adds (S.contents sink.old) (S.contents sink.new) (hex byte) result }
     ensures later { S.faults sink.old ≤ S.faults sink.new }
@@ -38,7 +41,7 @@ pub fn put_hex<S: Sink>(byte: u8, sink: &mut S) -> Put
 {
     let mut out = Writer::new(sink);
     out.put_hex(byte);
-    out.outcome()
+    out.finish()
 }
 
 // The two hexadecimal digits of a byte.

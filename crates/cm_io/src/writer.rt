@@ -1,47 +1,107 @@
-// A writer: a sink that is given no more once it has failed.
+// A writer: bytes that are put in pieces are gathered on a page, and a sink is given no more once it has failed.
 // A function that puts bytes in pieces is straight-line code over a Writer, with one clause, as Writes S.Sink out.old
 // out.new (indent.now ++ text.now ++ end_of_line). It closes with using(cm_io::proofs::Texts::texts). A public call
-// that is handed a sink makes Writer::new(sink), calls that function and gives out.outcome(); its clauses are Adds of
-// what is told, that the faults do not fall, and PutCause. Writer::new(sink) and two puts in one function stay open.
-// What puts in another way gives a Put, and not a step of four cases.
-ghost use Rattle.std.specs.Prelude.{◌≡◌, ◌++◌};
+// that is handed a sink makes Writer::new(sink), calls that function and gives out.finish(); its clauses are Adds of
+// what is told, that the faults do not fall, and PutCause, each answered by finish_puts. Writer::new(sink) and two
+// puts in one function stay open.
+ghost use Rattle.std.specs.Prelude.{◌≡◌, ◌≤◌, ◌+◌, ◌++◌, [], length};
 ghost use Rattle.std.specs.Fmt.{decimal};
 ghost use Rattle.cm_text.specs.ScreenBytes.{end_of_line};
 ghost use Rattle.cm_io.specs.Pieces.{hex, times};
-ghost use Rattle.cm_io.specs.Writer.{Begins, Writes, outlet};
+ghost use Rattle.cm_io.specs.Writer.{Begins, Finishes, Writes, outlet};
 
+use crate::page::{PAGE_LIMIT, Page};
 use crate::pieces::hex_digits;
 use crate::{Put, Sink};
-use cm_text::{decimal_digits, end_of_line};
+use cm_text::{DIGIT_LIMIT, decimal_digits, end_of_line};
 
-/// Writes on a sink piece by piece, and nothing more once the sink has failed. So a function that puts
-/// several pieces is straight-line code, and one question at its end tells how all of them went.
+/// Writes on a sink what comes in pieces, gathered in pages of 256 bytes, and nothing more once the sink has failed. So
+/// a function that puts several pieces is straight-line code, and `finish` hands on what is held, and tells how all of
+/// them went. Who makes a writer finishes it before anything else is asked of the outside.
 #[derive(Drop)]
 pub struct Writer<'a, S: Sink> {
     sink: &'a mut S,
+    held: Page,
     outcome: Put,
 }
 
 impl<'a, S: Sink> Writer<'a, S> {
-    /// A writer on this sink.
+    /// A writer on this sink, which holds nothing.
     pub fn new(sink: &'a mut S) -> Writer<'a, S>
         ensures { Begins S.Sink sink.entry result }
     {
         Writer {
             sink,
+            held: Page::new(),
             outcome: Put::Done,
         }
     }
 
-    /// How the puts went: Failed where one has failed.
-    pub fn outcome(&self) -> Put
-        ensures { result ≡ (outlet S.Sink self.now).outcome }
+    /// Hands on what is held, and tells how the puts went: Failed where one has failed. A sink that is given nothing is
+    /// not asked.
+    pub fn finish(&mut self) -> Put
+        ensures { Finishes S.Sink self.old self.new result }
     {
+        self.hand_on();
         self.outcome
     }
 
-    /// Writes some bytes.
+    /// Writes some bytes: full pages go to the sink at once, and the rest is held.
+    #[tactic(auto, using(crate::proofs::Texts::texts))]
     pub fn put(&mut self, bytes: &[u8])
+        ensures { Writes S.Sink self.old self.new bytes.now }
+    {
+        let room = self.held.room();
+        if bytes.len() <= room {
+            return self.hold(bytes);
+        }
+        let (front, rest) = bytes.split_at(room);
+        self.hold(front);
+        self.put_after(rest);
+    }
+
+    // Gives the sink what is held, if anything is and no put has failed.
+    #[tactic(auto, using(crate::proofs::Writers::gives_nothing, crate::proofs::Texts::writes_none))]
+    fn hand_on(&mut self)
+        ensures writes { Writes S.Sink self.old self.new [] }
+        ensures none { self.new.held ≡ [] }
+        ensures idle { self.old.held ≡ [] → self.new.outcome ≡ self.old.outcome }
+    {
+        if self.held.as_slice().is_empty() {
+            return;
+        }
+        if self.outcome == Put::Failed {
+            return self.held.clear();
+        }
+        self.outcome = self.sink.put(self.held.as_slice());
+        self.held.clear();
+    }
+
+    // Hands on what is held, and writes more bytes.
+    #[tactic(auto, using(crate::proofs::Texts::texts))]
+    fn put_after(&mut self, bytes: &[u8])
+        ensures { Writes S.Sink self.old self.new bytes.now }
+    {
+        self.finish();
+        if bytes.len() < PAGE_LIMIT {
+            self.hold(bytes);
+        } else {
+            self.pass(bytes);
+        }
+    }
+
+    // Holds bytes, for which there is room.
+    fn hold(&mut self, bytes: &[u8])
+        requires { length self.old.held + length bytes.now ≤ PAGE_LIMIT }
+        ensures { Writes S.Sink self.old self.new bytes.now }
+    {
+        self.held.put(bytes);
+    }
+
+    // Gives the sink bytes, where nothing is held, if no put has failed.
+    #[tactic(auto, using(crate::proofs::Writers::gives_nothing))]
+    fn pass(&mut self, bytes: &[u8])
+        requires { self.old.held ≡ [] }
         ensures { Writes S.Sink self.old self.new bytes.now }
     {
         if self.outcome == Put::Done {
@@ -62,6 +122,10 @@ impl<'a, S: Sink> Writer<'a, S> {
     pub fn put_decimal(&mut self, number: u64)
         ensures { Writes S.Sink self.old self.new (decimal number) }
     {
+        if self.held.room() >= DIGIT_LIMIT {
+            self.held.put_decimal(number);
+            return;
+        }
         self.put(decimal_digits(number).as_bytes());
     }
 
