@@ -245,6 +245,7 @@ fn put_refusal<S: Sink>(code: Code, out: &mut Writer<'_, S>)
 /// that is not ended, that it is one. Where the ending is none of the line, it is nothing.
 ///
 /// The answer is Failed only where the sink failed.
+#[tactic(auto, using(cm_io::proofs::Writers::finish_puts))]
 pub fn help<N: Names, R: Rules, S: Sink>(
     grammar: &Grammar,
     ending: Ending,
@@ -262,7 +263,7 @@ pub fn help<N: Names, R: Rules, S: Sink>(
 {
     let mut out = Writer::new(sink);
     put_help(grammar, ending, line, names, rules, &mut out);
-    out.outcome()
+    out.finish()
 }
 
 /// The same where more is written: puts on a writer what `help` puts on a sink.

@@ -286,13 +286,14 @@ fn log_raw<W: Sink>(logging: bool, key: u8, log: &mut W) -> Put
     }
 }
 
+#[tactic(auto, using(cm_io::proofs::Writers::finish_puts))]
 fn put_raw_log<W: Sink>(key: u8, log: &mut W) -> Put
     ensures bytes { Adds (W.contents log.old) (W.contents log.new) (raw_log key) result }
     ensures cause { PutCause (W.faults log.old) (W.faults log.new) result }
 {
     let mut out = Writer::new(log);
     write_raw_log(key, &mut out);
-    out.outcome()
+    out.finish()
 }
 
 // Writes `KEY data`, the key as two hexadecimal digits, and a line feed.

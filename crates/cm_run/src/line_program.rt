@@ -84,6 +84,7 @@ pub trait LineProgram {
 }
 
 // Does what a confirmed line commands, and puts what it shows.
+#[tactic(auto, using(cm_io::proofs::Writers::finish_puts))]
 fn obey_on<P: LineProgram, S: Sink>(program: &mut P, session: &Session, screen: &mut S) -> Put
     requires line { IsLineAt (line_mode (P.means.line_of program.old)) session.now.node }
     requires parse { IsParse (setting_of (lines_only P.means) program.old) session.now.node (text_of session.now)

@@ -1,193 +1,133 @@
 // The line of the log that tells of one key.
-//
-// Its pieces are gathered on a page, which is put where the next field might not fit on it. So a line of few fields
-// is one put.
 #![tactic(auto)]
 
-ghost use Rattle.std.specs.Prelude.{◌≡◌, ◌+◌, ◌*◌, ◌<◌, ◌≤◌, ◌++◌, [], codes, length};
-ghost use Rattle.cm_io.specs.Pieces.{hex};
-ghost use Rattle.cm_io.specs.Writer.{Left};
+ghost use Rattle.std.specs.Prelude.{◌≡◌};
+ghost use Rattle.cm_io.specs.Writer.{Writes};
 ghost use Rattle.cm_state.specs.Log.{day_log, default_log, ending_log, fault_log, field_log, fields_log, file_log, hook_log, marked, value_log};
 
 use crate::stack::Stack;
 use cm_blocks::{Ending, Fault, Field};
 use cm_fields::{FileKind, Value};
-use cm_io::{PAGE_LIMIT, Page, Sink, Writer};
-use cm_text::DIGIT_LIMIT;
+use cm_io::{Sink, Writer};
 
-// The most bytes of a number after a text of at most two bytes.
-const MARKED_ROOM: usize = DIGIT_LIMIT + 2;
-
-// The most bytes of a field, six numbers and the sign of a default, and the line feed that may follow it.
-const FIELD_ROOM: usize = 6 * MARKED_ROOM + 2;
-
-// A number after a text.
-#[inline(always)]
-#[tactic(auto, unfolding(crate::specs::Log::marked))]
-fn push_marked(mark: &[u8], number: u64, page: &mut Page)
-    requires mark { length mark.now ≤ 2 }
-    requires room { length page.old + MARKED_ROOM ≤ PAGE_LIMIT }
-    ensures value { page.new ≡ page.old ++ marked mark.now number }
-    ensures few { length page.new ≤ length page.old + MARKED_ROOM }
+// Puts a number after a text.
+#[tactic(auto, using(cm_io::proofs::Texts::texts), unfolding(crate::specs::Log::marked))]
+pub(crate) fn put_marked<S: Sink>(mark: &[u8], number: u64, out: &mut Writer<'_, S>)
+    ensures { Writes S.Sink out.old out.new (marked mark.now number) }
 {
-    page.put(mark);
-    page.put_decimal(number);
+    out.put(mark);
+    out.put_decimal(number);
 }
 
-// Why, at which node and at which place a text is refused.
-#[tactic(auto, unfolding(crate::specs::Log::fault_log))]
-fn push_fault(fault: Fault, page: &mut Page)
-    requires { length page.old + 3 * MARKED_ROOM ≤ PAGE_LIMIT }
-    ensures value { page.new ≡ page.old ++ fault_log fault }
-    ensures few { length page.new ≤ length page.old + 3 * MARKED_ROOM }
+// Puts why, at which node and at which place a text is refused.
+#[tactic(auto, using(cm_io::proofs::Texts::texts), unfolding(crate::specs::Log::fault_log))]
+fn put_fault<S: Sink>(fault: Fault, out: &mut Writer<'_, S>)
+    ensures { Writes S.Sink out.old out.new (fault_log fault) }
 {
-    push_marked(b" F", u64::from(fault.code.number()), page);
-    push_marked(b".", u64::from(fault.node), page);
-    push_marked(b"@", u64::from(fault.at), page);
+    put_marked(b" F", u64::from(fault.code.number()), out);
+    put_marked(b".", u64::from(fault.node), out);
+    put_marked(b"@", u64::from(fault.at), out);
 }
 
-// What is after the last field.
+// Puts what is after the last field.
 #[tactic(auto, unfolding(crate::specs::Log::ending_log))]
-fn push_ending(ending: Ending, page: &mut Page)
-    requires { length page.old + 3 * MARKED_ROOM ≤ PAGE_LIMIT }
-    ensures value { page.new ≡ page.old ++ ending_log ending }
-    ensures few { length page.new ≤ length page.old + 3 * MARKED_ROOM }
+pub(crate) fn put_ending<S: Sink>(ending: Ending, out: &mut Writer<'_, S>)
+    ensures { Writes S.Sink out.old out.new (ending_log ending) }
 {
     match ending {
-        Ending::Open(_) => page.put(b" O"),
-        Ending::Done => page.put(b" D"),
-        Ending::Fault(fault) => push_fault(fault, page),
+        Ending::Open(_) => out.put(b" O"),
+        Ending::Done => out.put(b" D"),
+        Ending::Fault(fault) => put_fault(fault, out),
     }
 }
 
-// The key, the size of the line, and what is after the last field.
-pub(crate) fn push_head(key: u8, size: usize, ending: Ending, page: &mut Page)
-    requires { page.old ≡ [] }
-    ensures value { page.new ≡ hex key ++ marked (codes " ") size ++ ending_log ending }
-    ensures few { length page.new < PAGE_LIMIT }
-{
-    page.put_hex(key);
-    push_marked(b" ", size as u64, page);
-    push_ending(ending, page);
-}
-
-// A day, before or after 1-JAN-1970.
+// Puts a day, before or after 1-JAN-1970.
 #[tactic(auto, unfolding(crate::specs::Log::day_log))]
-fn push_day(day: i32, page: &mut Page)
-    requires { length page.old + MARKED_ROOM ≤ PAGE_LIMIT }
-    ensures value { page.new ≡ page.old ++ day_log day }
-    ensures few { length page.new ≤ length page.old + MARKED_ROOM }
+fn put_day<S: Sink>(day: i32, out: &mut Writer<'_, S>)
+    ensures { Writes S.Sink out.old out.new (day_log day) }
 {
     let number = u64::from(day.unsigned_abs());
     if day < 0 {
-        push_marked(b"d-", number, page);
+        put_marked(b"d-", number, out);
     } else {
-        push_marked(b"d", number, page);
+        put_marked(b"d", number, out);
     }
 }
 
-// What a hook made of a field.
-#[tactic(auto, unfolding(crate::specs::Log::hook_log))]
-fn push_hook(id: u8, value: u64, page: &mut Page)
-    requires { length page.old + 2 * MARKED_ROOM ≤ PAGE_LIMIT }
-    ensures value { page.new ≡ page.old ++ hook_log id value }
-    ensures few { length page.new ≤ length page.old + 2 * MARKED_ROOM }
+// Puts what a hook made of a field.
+#[tactic(auto, using(cm_io::proofs::Texts::texts), unfolding(crate::specs::Log::hook_log))]
+fn put_hook<S: Sink>(id: u8, value: u64, out: &mut Writer<'_, S>)
+    ensures { Writes S.Sink out.old out.new (hook_log id value) }
 {
-    push_marked(b"h", u64::from(id), page);
-    push_marked(b":", value, page);
+    put_marked(b"h", u64::from(id), out);
+    put_marked(b":", value, out);
 }
 
-// What a file is wanted for.
+// Puts what a file is wanted for.
 #[tactic(auto, unfolding(crate::specs::Log::file_log))]
-fn push_kind(kind: FileKind, page: &mut Page)
-    requires { length page.old + MARKED_ROOM ≤ PAGE_LIMIT }
-    ensures value { page.new ≡ page.old ++ file_log kind }
-    ensures few { length page.new ≤ length page.old + MARKED_ROOM }
+fn put_kind<S: Sink>(kind: FileKind, out: &mut Writer<'_, S>)
+    ensures { Writes S.Sink out.old out.new (file_log kind) }
 {
     match kind {
-        FileKind::In => page.put(b"i"),
-        FileKind::Out => page.put(b"o"),
-        FileKind::Any => page.put(b"f"),
+        FileKind::In => out.put(b"i"),
+        FileKind::Out => out.put(b"o"),
+        FileKind::Any => out.put(b"f"),
     }
 }
 
-// What a field stands for.
+// Puts what a field stands for.
 #[tactic(auto, unfolding(crate::specs::Log::value_log))]
-fn push_value(value: Value, page: &mut Page)
-    requires { length page.old + 2 * MARKED_ROOM ≤ PAGE_LIMIT }
-    ensures value { page.new ≡ page.old ++ value_log value }
-    ensures few { length page.new ≤ length page.old + 2 * MARKED_ROOM }
+fn put_value<S: Sink>(value: Value, out: &mut Writer<'_, S>)
+    ensures { Writes S.Sink out.old out.new (value_log value) }
 {
     match value {
-        Value::Key { code, .. } => push_marked(b"k", u64::from(code), page),
-        Value::Switch { code, .. } => push_marked(b"s", u64::from(code), page),
-        Value::Noise(true) => page.put(b"n1"),
-        Value::Noise(false) => page.put(b"n0"),
-        Value::Number(number) => push_marked(b"#", number, page),
-        Value::Word(_) => page.put(b"w"),
-        Value::Quoted(_) => page.put(b"q"),
-        Value::Token => page.put(b"t"),
-        Value::Date(day) => push_day(day, page),
-        Value::User(_) => page.put(b"u"),
-        Value::Directory(_) => page.put(b"D"),
-        Value::NewDirectory(_) => page.put(b"D"),
-        Value::File { kind, .. } => push_kind(kind, page),
-        Value::Text(_) => page.put(b"x"),
-        Value::Comma => page.put(b","),
-        Value::Confirm => page.put(b"c"),
-        Value::Hook { id, value } => push_hook(id, value, page),
+        Value::Key { code, .. } => put_marked(b"k", u64::from(code), out),
+        Value::Switch { code, .. } => put_marked(b"s", u64::from(code), out),
+        Value::Noise(true) => out.put(b"n1"),
+        Value::Noise(false) => out.put(b"n0"),
+        Value::Number(number) => put_marked(b"#", number, out),
+        Value::Word(_) => out.put(b"w"),
+        Value::Quoted(_) => out.put(b"q"),
+        Value::Token => out.put(b"t"),
+        Value::Date(day) => put_day(day, out),
+        Value::User(_) => out.put(b"u"),
+        Value::Directory(_) => out.put(b"D"),
+        Value::NewDirectory(_) => out.put(b"D"),
+        Value::File { kind, .. } => put_kind(kind, out),
+        Value::Text(_) => out.put(b"x"),
+        Value::Comma => out.put(b","),
+        Value::Confirm => out.put(b"c"),
+        Value::Hook { id, value } => put_hook(id, value, out),
     }
 }
 
-// Which block took a field, what the field stands for, where it stands, and whether it is the default of its node.
-#[tactic(auto, unfolding(crate::specs::Log::field_log))]
-fn push_field(field: &Field, page: &mut Page)
-    requires { length page.old + FIELD_ROOM ≤ PAGE_LIMIT }
-    ensures value { page.new ≡ page.old ++ field_log field.now }
-    ensures few { length page.new < length page.old + FIELD_ROOM }
+// Puts which block took a field, what the field stands for, where it stands, and whether it is the default of its node.
+#[tactic(auto, using(cm_io::proofs::Texts::texts), unfolding(crate::specs::Log::field_log))]
+fn put_field<S: Sink>(field: &Field, out: &mut Writer<'_, S>)
+    ensures { Writes S.Sink out.old out.new (field_log field.now) }
 {
-    push_marked(b" ", u64::from(field.node()), page);
-    push_marked(b".", u64::from(field.block()), page);
-    push_value(*field.value(), page);
-    push_marked(b"@", u64::from(field.start()), page);
-    push_marked(b"-", u64::from(field.end()), page);
-    push_default(field.defaulted(), page);
+    put_marked(b" ", u64::from(field.node()), out);
+    put_marked(b".", u64::from(field.block()), out);
+    put_value(*field.value(), out);
+    put_marked(b"@", u64::from(field.start()), out);
+    put_marked(b"-", u64::from(field.end()), out);
+    put_default(field.defaulted(), out);
 }
 
-// Whether a field is the default of its node.
+// Puts whether a field is the default of its node.
 #[tactic(auto, unfolding(crate::specs::Log::default_log))]
-fn push_default(defaulted: bool, page: &mut Page)
-    requires { length page.old < PAGE_LIMIT }
-    ensures value { page.new ≡ page.old ++ default_log defaulted }
-    ensures few { length page.new ≤ length page.old + 1 }
+fn put_default<S: Sink>(defaulted: bool, out: &mut Writer<'_, S>)
+    ensures { Writes S.Sink out.old out.new (default_log defaulted) }
 {
-    if defaulted {
-        page.put(b"=");
-    }
+    out.put(if defaulted { b"=" } else { b"" });
 }
 
-// Sees to room for a field: puts the page where there is none.
-#[tactic(auto, using(cm_io::proofs::Texts::left_whole, cm_io::proofs::Texts::left_none))]
-fn make_room<S: Sink>(page: &mut Page, out: &mut Writer<'_, S>)
-    ensures left { Left S.Sink out.old out.new page.new page.old }
-    ensures room { length page.new + FIELD_ROOM ≤ PAGE_LIMIT }
-{
-    if page.room() >= FIELD_ROOM {
-        return;
-    }
-    out.put(page.as_slice());
-    page.clear();
-}
-
-// Puts the fields after what the page has. The last of them stay on it.
+// Puts the fields one after another.
 #[tactic(auto, using(crate::proofs::Logs::no_fields, crate::proofs::Logs::field_more))]
-pub(crate) fn put_fields<S: Sink>(fields: &Stack, page: &mut Page, out: &mut Writer<'_, S>)
-    requires { length page.old < PAGE_LIMIT }
-    ensures left { Left S.Sink out.old out.new page.new (page.old ++ fields_log fields.now) }
-    ensures room { length page.new < PAGE_LIMIT }
+pub(crate) fn put_fields<S: Sink>(fields: &Stack, out: &mut Writer<'_, S>)
+    ensures { Writes S.Sink out.old out.new (fields_log fields.now) }
 {
     for number in 0..fields.len() {
-        make_room(page, out);
-        push_field(fields.get(number), page);
+        put_field(fields.get(number), out);
     }
 }

@@ -21,14 +21,14 @@ use crate::echo::{
     takes_join,
 };
 use crate::held::open_at;
-use crate::log::{push_head, put_fields};
+use crate::log::{put_ending, put_fields, put_marked};
 use crate::recall::Recall;
 use crate::stack::Stack;
 use crate::{Prompt, Turn};
 use cm_blocks::{Ending, Grammar, Steps};
 use cm_files::Names;
 use cm_hooks::Rules;
-use cm_io::{Page, Put, Sink, Writer};
+use cm_io::{Put, Sink, Writer};
 use cm_line::{KeyClass, Line};
 use cm_text::{LINE_LIMIT, bell, control_c, end_of_line, screen_byte};
 use std::marker::Model;
@@ -91,6 +91,7 @@ impl Session {
 
     /// Begins a line: shows the prompt, and puts the session at the start of the node, also where the sink
     /// fails. What control-H brings back stays.
+    #[tactic(auto, using(cm_io::proofs::Writers::finish_puts))]
     pub fn begin<S: Sink>(&mut self, node: u16, prompt: Prompt, sink: &mut S) -> Put
         ensures session { self.new ≡ at_start node prompt self.old.recall }
         // It is ready for a key under every grammar that has the node.
@@ -104,7 +105,7 @@ impl Session {
         self.start(node, prompt);
         let mut out = Writer::new(sink);
         put_prompt(&self.prompt, &mut out);
-        out.outcome()
+        out.finish()
     }
 
     /// Takes one key: edits the line, holds the parse of the text as it then stands, and shows the echo. The fields
@@ -114,7 +115,7 @@ impl Session {
     /// where it finishes one whose parse ends in that fault, Abandoned exactly at control-C. CR and LF finish no line
     /// that ends in a hyphen, but continue it. It is Failed only where the sink failed; the session is then where the
     /// key left it, and the counter has risen as ever.
-    #[tactic(auto, unfolding(crate::specs::Echo::echo))]
+    #[tactic(auto, using(cm_io::proofs::Writers::finish_puts), unfolding(crate::specs::Echo::echo))]
     pub fn key<N: Names, R: Rules, S: Sink, L: Ledger>(
         &mut self,
         key: u8,
@@ -165,7 +166,7 @@ impl Session {
         };
         let mut out = Writer::new(sink);
         self.echo(keystroke, grammar, names, rules, &mut out);
-        match out.outcome() {
+        match out.finish() {
             Put::Done => self.turn(class),
             Put::Failed => Turn::Failed,
         }
@@ -173,6 +174,7 @@ impl Session {
 
     /// Puts the line of the log that tells of a key and of the parse held after it: the key, the length of
     /// the line, the ending and each field.
+    #[tactic(auto, using(cm_io::proofs::Writers::finish_puts))]
     pub fn log_line<S: Sink>(&self, key: u8, sink: &mut S) -> Put
         // [log-line]
         ensures bytes { Adds (S.contents sink.old) (S.contents sink.new) (log_line key self.now) result }
@@ -181,7 +183,7 @@ impl Session {
     {
         let mut out = Writer::new(sink);
         self.put_log(key, &mut out);
-        out.outcome()
+        out.finish()
     }
 
     // A session at its start.
@@ -329,15 +331,15 @@ impl Session {
     }
 
     // Puts the line of the log.
-    #[tactic(auto, using(crate::proofs::Logs::line_put))]
+    #[tactic(auto, using(cm_io::proofs::Texts::texts), unfolding(crate::specs::Log::log_line))]
     fn put_log<S: Sink>(&self, key: u8, out: &mut Writer<'_, S>)
         ensures { Writes S.Sink out.old out.new (log_line key self.now) }
     {
-        let mut page = Page::new();
-        push_head(key, self.line.bytes().len(), self.ending, &mut page);
-        put_fields(&self.fields, &mut page, out);
-        page.put(b"\n");
-        out.put(page.as_slice());
+        out.put_hex(key);
+        put_marked(b" ", self.line.bytes().len() as u64, out);
+        put_ending(self.ending, out);
+        put_fields(&self.fields, out);
+        out.put(b"\n");
     }
 
     // The outcome of a key of this class.

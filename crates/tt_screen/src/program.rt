@@ -73,6 +73,7 @@ fn feed_all<K: Source>(keys: &mut K, shown: &mut Screen) -> Read
 }
 
 // Puts the rows that are kept.
+#[tactic(auto, using(cm_io::proofs::Writers::finish_puts))]
 fn put_screen<S: Sink>(shown: &Screen, screen: &mut S) -> Put
     ensures bytes { Adds (S.contents screen.old) (S.contents screen.new) (rows_text shown.now.rows) result }
     ensures later { S.faults screen.old ≤ S.faults screen.new }
@@ -80,7 +81,7 @@ fn put_screen<S: Sink>(shown: &Screen, screen: &mut S) -> Put
 {
     let mut out = Writer::new(screen);
     put_rows(shown, &mut out);
-    out.outcome()
+    out.finish()
 }
 
 #[tactic(auto, using(crate::proofs::WrittenRows::no_rows, crate::proofs::WrittenRows::row_more))]

@@ -90,6 +90,7 @@ impl Session {
 
     /// Shows the prompt and the line, as control-R does on a screen that is at the front of a row: for a program
     /// that has shown something else in the midst of a line, and has ended that row.
+    #[tactic(auto, using(cm_io::proofs::Writers::finish_puts))]
     pub fn show<S: Sink>(&self, sink: &mut S) -> Put
         ensures bytes { Adds (S.contents sink.old) (S.contents sink.new)
             (with_prompt self.now.prompt (line_before self.now)) result }
@@ -98,7 +99,7 @@ impl Session {
     {
         let mut out = Writer::new(sink);
         put_with_prompt(&self.prompt, self.line_before(), &mut out);
-        out.outcome()
+        out.finish()
     }
 
     // The line that a key meets.
