@@ -40,13 +40,14 @@ fn stop_of(how: Result<Ended, Stop>, status: Status) -> Option<Code>
 }
 
 // Puts why a run was stopped.
+#[tactic(auto, using(cm_io::proofs::Writers::finish_puts))]
 fn put_stop<S: Sink>(code: Code, screen: &mut S) -> Put
     ensures bytes { Adds (S.contents screen.old) (S.contents screen.new) (refusal code) result }
     ensures cause { PutCause (S.faults screen.old) (S.faults screen.new) result }
 {
     let mut out = Writer::new(screen);
     put_refusal(code, &mut out);
-    out.outcome()
+    out.finish()
 }
 
 // Shows why a run was stopped. A screen that fails here changes nothing.

@@ -25,6 +25,7 @@ fn put_shown<S: Sink>(line: &[u8], out: &mut Writer<'_, S>)
 }
 
 // Puts it on a sink.
+#[tactic(auto, using(cm_io::proofs::Writers::finish_puts))]
 fn put_on<S: Sink>(line: &[u8], screen: &mut S) -> Put
     ensures bytes { Adds (S.contents screen.old) (S.contents screen.new) (shown line.now) result }
     ensures later { S.faults screen.old ≤ S.faults screen.new }
@@ -32,7 +33,7 @@ fn put_on<S: Sink>(line: &[u8], screen: &mut S) -> Put
 {
     let mut out = Writer::new(screen);
     put_shown(line, &mut out);
-    out.outcome()
+    out.finish()
 }
 
 /// Shows a line of a control file.

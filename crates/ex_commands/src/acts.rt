@@ -29,6 +29,7 @@ use ex_store::Store;
 /// Logout for LOGOUT. NoMemory comes only for APPEND, BUILD that waits for no subcommand, COPY, DEFINE with a
 /// directory, PRINT and RENAME, and nothing is put or changed. Failed comes only where the sink failed: a part of what
 /// is to be put is put, and the command has acted all the same. No memory is taken but through the store.
+#[tactic(auto, using(crate::proofs::Reports::outcome_reports))]
 pub fn act<S: Sink>(store: &mut Store, command: &Command, moment: u64, sink: &mut S) -> Acted
     requires { MayAct command.now store.old.state }
     // [cut-reply]
@@ -39,7 +40,7 @@ pub fn act<S: Sink>(store: &mut Store, command: &Command, moment: u64, sink: &mu
 {
     let mut out = Writer::new(sink);
     let answer = do_command(store, command, moment, &mut out);
-    answer_by(answer, out.outcome())
+    answer_by(answer, out.finish())
 }
 
 // Does a command, and writes the reply to it.

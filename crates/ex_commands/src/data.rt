@@ -92,6 +92,7 @@ impl Data {
     }
 
     /// Puts what a key shows, and does nothing yet. A key that has no effect rings the bell.
+    #[tactic(auto, using(cm_io::proofs::Writers::finish_puts))]
     pub fn echo<S: Sink>(&self, key: u8, sink: &mut S) -> Put
         ensures bytes { Adds (S.contents sink.old) (S.contents sink.new) (echo_text (echo_of self.now key)) result }
         ensures later { S.faults sink.old ≤ S.faults sink.new }
@@ -99,7 +100,7 @@ impl Data {
     {
         let mut out = Writer::new(sink);
         put_echo(echo_of(&self.bytes, key), &mut out);
-        out.outcome()
+        out.finish()
     }
 
     /// Takes one key. A text byte or TAB is put in, CR or LF puts in CR and LF; what has no room in a file puts nothing

@@ -65,6 +65,7 @@ fn write<S: Sink>(
 /// changes. With NoMemory nothing is put or changed. Failed comes only where the sink failed: a part of what is to be
 /// put is put, and the file is written, or refused, all the same. The memory for files is that of the store; none but
 /// that is taken today.
+#[tactic(auto, using(crate::proofs::Reports::outcome_reports))]
 pub fn write_data<S: Sink>(
     store: &mut Store,
     to: &Place,
@@ -80,5 +81,5 @@ pub fn write_data<S: Sink>(
 {
     let mut out = Writer::new(sink);
     let answer = write(store, to, typed, moment, &mut out);
-    answer_by(answer, out.outcome())
+    answer_by(answer, out.finish())
 }

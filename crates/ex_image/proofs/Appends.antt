@@ -6,7 +6,7 @@ use Rattle.std.specs.Option.{option_map}
 use Rattle.cm_io.specs.Host.{Writes}
 use Rattle.cm_io.specs.declared.sink.Put.{Put}
 use Rattle.cm_io.specs.declared.sink.Put.TheVariants.{Done, Failed}
-use Rattle.cm_io.proofs.Texts.{cause_both}
+use Rattle.cm_io.proofs.Additions.{cause_both}
 use Rattle.ex_image.specs.Writing.{Appends, Outside}
 
 -- what is appended to a file, if it is there

@@ -89,7 +89,7 @@ fn show_summary<S: Sink>(summary: &Summary, screen: &mut S) -> Status
 {
     let mut out = Writer::new(screen);
     summary.put(&mut out);
-    match out.outcome() {
+    match out.finish() {
         Put::Done => Status::Done,
         Put::Failed => Status::WriteFault,
     }

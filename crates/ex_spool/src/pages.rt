@@ -30,6 +30,7 @@ fn put_pages<S: Sink>(store: &Store, moment: u64, out: &mut Writer<'_, S>)
 }
 
 /// Shows the pages of the entries that are due. It takes no memory.
+#[tactic(auto, using(cm_io::proofs::Writers::finish_puts))]
 pub(crate) fn show_pages<S: Sink>(store: &Store, moment: u64, screen: &mut S) -> Put
     ensures bytes { Adds (S.contents screen.old) (S.contents screen.new) (pages moment store.now.state) result }
     ensures later { S.faults screen.old ≤ S.faults screen.new }
@@ -37,5 +38,5 @@ pub(crate) fn show_pages<S: Sink>(store: &Store, moment: u64, screen: &mut S) ->
 {
     let mut out = Writer::new(screen);
     put_pages(store, moment, &mut out);
-    out.outcome()
+    out.finish()
 }

@@ -33,6 +33,7 @@ fn do_command<S: Sink>(store: &mut Store, command: &Command, out: &mut Writer<'_
 }
 
 /// Does what a command does to a store, and shows its reply. It acts also where the screen fails.
+#[tactic(auto, using(cm_io::proofs::Writers::finish_puts))]
 pub(crate) fn act<S: Sink>(store: &mut Store, command: &Command, screen: &mut S) -> Put
     requires { MayAct command.now store.old.state }
     ensures reply { Adds (S.contents screen.old) (S.contents screen.new)
@@ -43,5 +44,5 @@ pub(crate) fn act<S: Sink>(store: &mut Store, command: &Command, screen: &mut S)
 {
     let mut out = Writer::new(screen);
     do_command(store, command, &mut out);
-    out.outcome()
+    out.finish()
 }

@@ -106,6 +106,7 @@ fn deliver<S: Sink>(
 ///
 /// With NoMemory nothing is shown or changed. Failed says that the screen failed: a part of what is to be shown is
 /// shown, and the message is sent, or refused, all the same.
+#[tactic(auto, using(cm_io::proofs::Writers::finish_puts))]
 pub(crate) fn send<S: Sink>(
     alloc: Global,
     store: &mut Store,
@@ -124,5 +125,5 @@ pub(crate) fn send<S: Sink>(
 {
     let mut out = Writer::new(screen);
     deliver(alloc, store, message, &mut out)?;
-    Ok(out.outcome())
+    Ok(out.finish())
 }

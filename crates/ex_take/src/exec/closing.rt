@@ -170,6 +170,7 @@ impl Exec {
 }
 
 // Shows why a line is refused.
+#[tactic(auto, using(cm_io::proofs::Writers::finish_puts))]
 fn show_refusal<S: Sink>(code: Code, screen: &mut S) -> Put
     ensures bytes { Adds (S.contents screen.old) (S.contents screen.new) (refusal code) result }
     ensures later { S.faults screen.old ≤ S.faults screen.new }
@@ -177,7 +178,7 @@ fn show_refusal<S: Sink>(code: Code, screen: &mut S) -> Put
 {
     let mut out = Writer::new(screen);
     put_refusal(code, &mut out);
-    out.outcome()
+    out.finish()
 }
 
 // How many lines were taken, for the typed line whose files are open; where none is, none.
