@@ -1,9 +1,11 @@
 // Each object once, through the bounds by which programs use it.
 use cm_io::{
     Clock, CountSink, Got, Host, Loaded, MemClock, MemHost, MemSink, MemSource, Put, Sink, Source,
-    StdClock, StdHost, StdSink, StdSource, Writer, put_decimal, put_hex, put_line,
+    StdClock, StdErrorSink, StdHost, StdSink, StdSource, Writer, put_decimal, put_hex, put_line,
 };
+use cm_io_tests::Counted;
 use std::alloc::Global;
+use std::cell::Cell;
 use std::test::Fail;
 use std::{env, fs};
 
@@ -126,7 +128,7 @@ fn loading_from_memory(rt: HostRuntime) -> Result<(), Fail> {
 fn put_three<S: Sink>(piece: &[u8], sink: &mut S) -> Put {
     let mut out = Writer::new(sink);
     out.put_times(3, piece);
-    out.outcome()
+    out.finish()
 }
 
 #[test]
@@ -145,11 +147,38 @@ fn often_used_pieces(rt: HostRuntime) -> Result<(), Fail> {
     Ok(())
 }
 
+// Puts 100 rows of 20 bytes, each in three pieces.
+fn put_rows<S: Sink>(sink: &mut S) -> Put {
+    let mut out = Writer::new(sink);
+    for _ in 0..100 {
+        out.put(b"  ");
+        out.put_line(b"sixteen bytes ..");
+    }
+    out.finish()
+}
+
+// 2,000 bytes are seven pages of 256 and a part of one.
+#[test]
+fn a_reply_is_put_a_page_at_a_time(rt: HostRuntime) {
+    let calls = Cell::new(0);
+    let mut sink = Counted {
+        held: CountSink::new(),
+        calls: &calls,
+    };
+    assert_eq!(rt; put_rows(&mut sink), Put::Done);
+    assert_eq!(rt; calls.get(), 8);
+}
+
 #[test]
 fn standard_streams(rt: HostRuntime) {
     assert_ne!(rt; StdSource::new(&rt).get(), Got::Failed);
+    assert_ne!(rt; StdSource::single(&rt).get(), Got::Failed);
     assert_eq!(rt;
         put_two(&mut StdSink::new(&rt), b"standard ", b"output\n"),
+        [Put::Done; 2]
+    );
+    assert_eq!(rt;
+        put_two(&mut StdErrorSink::new(&rt), b"standard ", b"error\n"),
         [Put::Done; 2]
     );
 }

@@ -2,8 +2,8 @@
 use cm_io::{MemSink, Put, Sink, StdLog, Writer};
 use std::test::Fail;
 
-// One byte more than the longest line of a log has.
-const TOO_LONG: u32 = 2_709;
+// One byte more than the log holds.
+const TOO_LONG: u32 = 4_097;
 
 // What a sink answers where these pieces are put one after another.
 fn put_all<S: Sink>(pieces: &[&[u8]], sink: &mut S) -> Put {
@@ -11,14 +11,15 @@ fn put_all<S: Sink>(pieces: &[&[u8]], sink: &mut S) -> Put {
     for piece in pieces {
         out.put(piece);
     }
-    out.outcome()
+    out.finish()
 }
 
 #[test]
 fn standard_error(rt: HostRuntime) -> Result<(), Fail> {
-    let mut long = MemSink::new(rt.alloc(), 2_709)?;
+    let mut long = MemSink::new(rt.alloc(), TOO_LONG)?;
     let mut out = Writer::new(&mut long);
     out.put_times(TOO_LONG, b" ");
+    assert_eq!(rt; out.finish(), Put::Done);
     let mut log = StdLog::new(&rt);
     assert_eq!(rt; log.put(b""), Put::Done, "no bytes");
     assert_eq!(rt; put_all(&[b"held ", b"and written\n"], &mut log), Put::Done);

@@ -6,4 +6,6 @@ mod grammars;
 #[cfg(test)]
 mod handed;
 mod panel;
+#[cfg(test)]
+mod parts;
 mod tally;

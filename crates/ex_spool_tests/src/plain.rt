@@ -4,7 +4,7 @@ ghost use Rattle.std.specs.Prelude.{◌<◌, ◌≤◌};
 ghost use Rattle.ex_spool.specs.declared.row.TheConstants.{WIDEST_ROW};
 
 use crate::notation::push_said;
-use cm_io::{MemSink, Writer};
+use cm_io::{MemSink, Put, Writer};
 use ex_spool::put_body;
 use std::alloc::{AllocError, Global};
 use std::test::Fail;
@@ -100,7 +100,7 @@ fn try_width(alloc: Global, case: &str, bytes: &[u8], width: usize) -> Result<()
     let mut screen = MemSink::new(alloc, 65536)?;
     let mut out = Writer::new(&mut screen);
     put_body(bytes, width, &mut out);
-    if screen.bytes() == plain.as_slice() {
+    if out.finish() == Put::Done && screen.bytes() == plain.as_slice() {
         return Ok(());
     }
     Err(Fail::new(format_args!("rows of {width} bytes of the file {case}")))
