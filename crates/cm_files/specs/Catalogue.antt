@@ -1,5 +1,5 @@
 -- A catalogue: directories, the connected one, logical names and files, each a flat list in ascending order.
-use Rattle.std.specs.Prelude.{ℕ, ◌≡◌, ◌<◌, ◌==◌, Bool, true, not, ◌&&◌, nat_lt, nat_le, List, [], ◌∷◌, length, filter, find, Option}
+use Rattle.std.specs.Prelude.{ℕ, ◌≡◌, ◌<◌, ◌==◌, Bool, true, not, ◌&&◌, nat_lt, nat_le, List, length, filter, find, Option}
 use Rattle.std.specs.Char.{is_ascii_lowercase}
 use Rattle.std.specs.Cmp.Lexicographic.{slice_cmp}
 use Rattle.std.specs.List.{list_all, slice_split}

@@ -134,39 +134,6 @@ pub left_nothing : {T : Type 0} (s : Ghosts T) (before now : Writer T) (whole : 
 left_nothing s before now whole left =
     subst (λ text. Writes s before now text) (sym (append-nil left.front) ∙ left.joined) left.writes
 
--- where some of what is left is written, the rest of that is left
-pub left_on : {T : Type 0} (s : Ghosts T) (before now later : Writer T) (rest middle whole : List ℕ)
-    → Left s now later rest middle
-    → Left s before now middle whole → Left s before later rest whole
-left_on s before now later rest middle whole late early = record {
-  front = early.front ++ late.front;
-  writes = writes_both s before now later early.front late.front late.writes early.writes;
-  joined = append_assoc early.front late.front rest ∙ ap (λ bytes. early.front ++ bytes) late.joined ∙ early.joined;
-}
-
--- where the whole has a text more at its end, that is left too
-pub left_more : {T : Type 0} (s : Ghosts T) (before now : Writer T) (rest whole text : List ℕ)
-    → Left s before now rest whole
-    → Left s before now (rest ++ text) (whole ++ text)
-left_more s before now rest whole text left = record {
-  front = left.front;
-  writes = left.writes;
-  joined = sym (append_assoc left.front rest text) ∙ ap (λ bytes. bytes ++ text) left.joined;
-}
-
--- a text that is written leaves nothing of it
-pub left_none : {T : Type 0} (s : Ghosts T) (before now : Writer T) (whole : List ℕ) → Writes s before now whole
-    → Left s before now [] whole
-left_none s before now whole writes = record { front = whole; writes = writes; joined = append-nil whole }
-
--- where all that is left is written, the whole is
-pub left_written : {T : Type 0} (s : Ghosts T) (before now later : Writer T) (rest whole : List ℕ)
-    → Writes s now later rest
-    → Left s before now rest whole → Writes s before later whole
-left_written s before now later rest whole writes left =
-    subst (λ text. Writes s before later text) left.joined
-    (writes_both s before now later left.front rest writes left.writes)
-
 -- no lines
 pub writes_no_lines : {T : Type 0} (s : Ghosts T) (a : Writer T) → Writes s a a (shown_lines [])
 unfolding shown_lines

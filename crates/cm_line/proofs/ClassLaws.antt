@@ -1,8 +1,7 @@
 -- The class of a key on a line.
-use Rattle.std.proofs.Common.{◌≡◌, ℕ, ◌-◌, ◌<◌, ◌==◌, Bool, true, false, ◌&&◌, if◌then◌else◌, List, [], ◌∷◌, length, refl, arith}
+use Rattle.std.proofs.Common.{◌≡◌, ℕ, ◌<◌, Bool, true, false, ◌&&◌, if◌then◌else◌, List, [], ◌∷◌, length, refl, arith}
 use Rattle.cm_text.specs.Bytes.{is_text}
 use Rattle.cm_text.specs.Text.{ends_in_hyphen}
-use Rattle.cm_line.specs.declared.key.KeyClass.{KeyClass}
 use Rattle.cm_line.specs.declared.key.KeyClass.TheVariants.{Text, Join}
 use Rattle.cm_line.specs.Keys.{class_at, class_of, is_end}
 

@@ -1,5 +1,5 @@
 -- An option, and the greater of numbers that may be there.
-use Rattle.std.proofs.Common.{Bool, None, Option, Some, arith, cond, false, if◌then◌else◌, is_some, max, not, refl, true, unwrap_or, ℕ, ◌≡◌, ◌≤◌}
+use Rattle.std.proofs.Common.{Bool, None, Option, Some, arith, cond, false, is_some, max, not, refl, true, unwrap_or, ℕ, ◌≡◌, ◌≤◌}
 use Rattle.std.specs.Borrow.{Bor}
 use Rattle.std.specs.Option.{option_copied, option_map_or}
 

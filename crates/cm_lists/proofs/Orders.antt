@@ -1,5 +1,5 @@
 -- The three answers of a comparison.
-use Rattle.std.proofs.Common.{ap, arith, false, not, refl, true, ℕ, ◌≡◌, ◌≤◌}
+use Rattle.std.proofs.Common.{arith, false, refl, true, ℕ, ◌≡◌, ◌≤◌}
 use Rattle.std.specs.Ordering.{is_eq, is_gt, is_lt, nat_cmp, ordering_index, ordering_reverse, ordering_then}
 use Rattle.std.specs.declared.cmp.Ordering.{Ordering}
 use Rattle.std.specs.declared.cmp.Ordering.TheVariants.{Equal, Greater, Less}

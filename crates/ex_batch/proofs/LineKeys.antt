@@ -169,8 +169,8 @@ module _ (at : ExecState) (rests : is_at_rest at ≡ true) where
       echo_end =
           ap (λ (it : KeyClass). echo_of under it 13 (length line) (takes_join it line) (is_some recall) (completed under held it).bell (edited under held 13))
           (end_class line plain)
-          ∙ ap (λ (it : SessionState). end_of_line ++ complaint it.ending) edited_end
-          ∙ ap (λ (it : Ending). end_of_line ++ complaint it) done
+          ∙ ap (λ (it : SessionState). end_of_line ++ complaint under.graph it.line it.ending) edited_end
+          ∙ ap (λ (it : Ending). end_of_line ++ complaint under.graph session.line it) done
           ∙ append-nil end_of_line
 
       pub end_shows : screen_bytes (key_trace exec_semantics logging met 13)

@@ -1,7 +1,7 @@
 -- Where the file of a generation stands, and what a change there is.
 -- Helpers over files ensure the order besides their result. Definitions are filters and maps, and the code is a search
 -- for one place (inserted). xs.get(at) gives lookup; at any default it needs get_or_default.
-use Rattle.std.proofs.Common.{◌≡◌, ℕ, ◌+◌, ◌<◌, ◌≤◌, Bool, true, false, not, cond, nat_lt, suc, zero, List, [], ◌∷◌, length, get_or, set, filter, find, insert, remove, position, Some, None, refl, sym, ap, subst, ◌∙◌, ◌⊎◌, inl, inr, arith}
+use Rattle.std.proofs.Common.{◌≡◌, ℕ, ◌+◌, ◌<◌, ◌≤◌, Bool, true, false, cond, nat_lt, suc, zero, List, [], ◌∷◌, length, get_or, set, filter, find, insert, remove, position, Some, None, refl, sym, ap, subst, ◌∙◌, ◌⊎◌, inl, inr, arith}
 use Rattle.std.specs.List.{position_or_len, prefix_len}
 use Rattle.std.proofs.lemmas.Bool.{cond-false, cond-true, eq-eqb, eqb-false, eqb-true, le-ltb, lt-ltb, ltb-false, ne_eqb, or_parts}
 use Rattle.std.proofs.lemmas.List.Folds.{list_any_at}

@@ -17,7 +17,7 @@ use Rattle.ex_image.specs.Record.{Entry, Connected}
 use Rattle.ex_image.proofs.Drafts.{draft_more, makes_sound}
 use Rattle.ex_image.proofs.Endings.{image_here, never_bad, one_bad, one_state, whole}
 use Rattle.ex_image.proofs.RecordLaws.{record_takes}
-use Rattle.ex_image.proofs.Stands.{IsConnected, Stands, faultless_of}
+use Rattle.ex_image.proofs.Stands.{IsConnected, Stands}
 
 -- and with a record more that may be there
 pub drafted_more : (bytes : List ℕ) (reading : Reading) (rest : List ℕ) (entry : Entry) (content : List ℕ)

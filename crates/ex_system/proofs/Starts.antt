@@ -1,5 +1,5 @@
 -- [start-cause] What a run begins from, and what a status says that comes before its first prompt.
-use Rattle.std.proofs.Common.{◌≡◌, ◌≤◌, ℕ, List, length, Option, Some, None, refl, sym, ◌∙◌, subst, inl, arith}
+use Rattle.std.proofs.Common.{◌≡◌, ◌≤◌, ℕ, List, length, Option, Some, None, refl, sym, ◌∙◌, inl, arith}
 use Rattle.ex_image.specs.Grammar.{FirstBad, IsImage}
 use Rattle.cm_io.specs.declared.status.Kind.{Kind}
 use Rattle.ex_image.proofs.Endings.{never_bad, one_state}

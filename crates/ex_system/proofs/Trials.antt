@@ -1,7 +1,7 @@
 -- Messages that are tried.
 use Rattle.std.proofs.Common.{◌≡◌, ◌⊎◌, ℕ, List, [], ◌++◌, sym, ap, ◌∙◌, subst, inl, inr, append_assoc}
 use Rattle.std.proofs.lemmas.List.{append-nil}
-use Rattle.cm_io.specs.Contents.{Contents, add, AddsPart}
+use Rattle.cm_io.specs.Contents.{Contents, add}
 use Rattle.cm_io.specs.Fault.{Rose}
 use Rattle.cm_io.proofs.Additions.{add_append}
 use Rattle.ex_system.specs.Trying.{Tried}

@@ -1,4 +1,3 @@
-use Rattle.std.proofs.Common.{rules}
 use Rattle.cm_text.proofs.SetBits.{byte_below}
 use Rattle.cm_text.proofs.byte_set.ByteSet.with_byte.Goals as goal
 

@@ -1,4 +1,4 @@
-use Rattle.std.proofs.Common.{◌≤◌, ◌∙◌, ℕ, ap, arith, sym}
+use Rattle.std.proofs.Common.{◌∙◌, ℕ, ap, arith}
 use Rattle.cm_text.specs.ByteSets.{has_byte, with_range}
 use Rattle.cm_text.proofs.SetBits.{no_range, range_below, range_in, range_is, range_within}
 use Rattle.cm_text.proofs.byte_set.ByteSet.with_range.Goals as goal
