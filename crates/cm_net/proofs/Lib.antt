@@ -4,3 +4,4 @@ pub mod MacTexts
 pub mod PartedTexts
 pub mod PrefixTexts
 pub mod Sizes
+pub mod TextValues

@@ -3,4 +3,5 @@ pub mod MacShape
 pub mod Parts
 pub mod Prefix
 pub mod Reads
+pub mod Values
 pub mod Written

@@ -1,5 +1,7 @@
 // Prefixes: an address, and how many of its first bits count.
-ghost use Rattle.std.specs.Prelude.{◌≡◌, ◌≤◌, ◌↔◌, IsTrue};
+ghost use Rattle.std.specs.Prelude.{◌≡◌, ◌≤◌, ◌↔◌, IsTrue, option_map};
+ghost use Rattle.std.specs.Net.Addr.{ipv4_octets, ipv6_segments};
+ghost use Rattle.cm_net.specs.Values.{ipv4_prefix_value, ipv6_prefix_value};
 ghost use Rattle.cm_net.specs.Reads.{Reads};
 ghost use Rattle.cm_net.specs.declared.prefix.TheConstants.{IPV4_LENGTH_LIMIT, IPV6_LENGTH_LIMIT};
 
@@ -29,7 +31,10 @@ impl Ipv4Prefix {
     /// The prefix that a text writes: an IPv4 address, a slash, and a length of 0 to 32 in decimal with no zero before
     /// a digit (RFC 4632, 3.1). None where it writes none.
     pub fn parse(text: &[u8]) -> Option<Ipv4Prefix>
-        ensures { Reads IsIpv4PrefixText text.now result }
+        ensures writes { Reads IsIpv4PrefixText text.now result }
+        // It is what is computed of the bytes.
+        ensures value { option_map (λ prefix. (ipv4_octets prefix.address, prefix.prefix_length)) result
+            ≡ ipv4_prefix_value text.now }
     {
         match ipv4_parts(text) {
             Some((address, prefix_length)) => Some(Ipv4Prefix {
@@ -66,7 +71,10 @@ impl Ipv6Prefix {
     /// The prefix that a text writes: an IPv6 address, a slash, and a length of 0 to 128 in decimal with no zero before
     /// a digit (RFC 4291, 2.3). None where it writes none.
     pub fn parse(text: &[u8]) -> Option<Ipv6Prefix>
-        ensures { Reads IsIpv6PrefixText text.now result }
+        ensures writes { Reads IsIpv6PrefixText text.now result }
+        // It is what is computed of the bytes.
+        ensures value { option_map (λ prefix. (ipv6_segments prefix.address, prefix.prefix_length)) result
+            ≡ ipv6_prefix_value text.now }
     {
         match ipv6_parts(text) {
             Some((address, prefix_length)) => Some(Ipv6Prefix {

@@ -11,7 +11,7 @@ returns-in_err-front c =
 pub returns-in_err-address : goal.returns-in_err-address
 returns-in_err-address c =
     rw c.from_residual-in_err-address.ensures
-    (no_address IsIpv4Text IPV4_LENGTH_LIMIT (lit< tt) c.args.text.now c.in_ok-front.front.now c.in_ok-front.back.now c.in_ok-front.ensures c.in_err-address.ensures)
+    (no_address IsIpv4Text IPV4_LENGTH_LIMIT (lit< tt) c.args.text.now c.in_ok-front.front.now c.in_ok-front.back.now c.in_ok-front.ensures c.in_err-address.ensures.writes)
 
 pub returns-in_err-prefix_length : goal.returns-in_err-prefix_length
 returns-in_err-prefix_length c =
@@ -21,4 +21,4 @@ returns-in_err-prefix_length c =
 pub returns : goal.returns
 returns c =
     prefix_of IsIpv4Text IPV4_LENGTH_LIMIT (lit< tt) c.args.text.now c.in_ok-front.front.now c.in_ok-front.back.now _ _
-    c.in_ok-front.ensures c.in_ok-address.ensures c.in_ok-prefix_length.ensures
+    c.in_ok-front.ensures c.in_ok-address.ensures.writes c.in_ok-prefix_length.ensures
