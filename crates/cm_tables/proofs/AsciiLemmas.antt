@@ -8,7 +8,7 @@ use Rattle.std.proofs.lemmas.Bool.Decides.{nat_tests}
 use Rattle.std.proofs.lemmas.Str.Ascii.{IsAscii-nil}
 use Rattle.std.proofs.lemmas.Str.{IsAscii-drop, IsAscii-take}
 use Rattle.cm_text.specs.Case.{begins_with}
-use Rattle.cm_tables.specs.Common.{common, rests, shared}
+use Rattle.cm_tables.specs.Common.{common, rests, shared_letters}
 use Rattle.cm_tables.specs.Look.{is_recognised}
 use Rattle.cm_tables.specs.Order.{is_keyword_byte}
 use Rattle.cm_tables.specs.Search.{Ascends}
@@ -44,11 +44,11 @@ rests_are_ascii place (first ∷ more) atom up =
     by false here later = later
 
 -- what they all share
-shared_is_ascii : (text : List ℕ) (others : List (List ℕ)) → IsAscii text → IsAscii (fold shared text others)
+shared_is_ascii : (text : List ℕ) (others : List (List ℕ)) → IsAscii text → IsAscii (fold shared_letters text others)
 shared_is_ascii text [] is = is
-shared_is_ascii text (other ∷ others) is = shared_is_ascii (shared text other) others (IsAscii-take text _ is)
+shared_is_ascii text (other ∷ others) is = shared_is_ascii (shared_letters text other) others (IsAscii-take text _ is)
 
-least_is_ascii : (texts : List (List ℕ)) → AllByRecursion IsAscii texts → IsAscii (unwrap_or (reduce shared texts) [])
+least_is_ascii : (texts : List (List ℕ)) → AllByRecursion IsAscii texts → IsAscii (unwrap_or (reduce shared_letters texts) [])
 least_is_ascii [] all = IsAscii-nil
 least_is_ascii (text ∷ others) all = shared_is_ascii text others all.0
 

@@ -2,20 +2,19 @@
 use Rattle.std.proofs.Common.{◌≡◌, ℕ, zero, suc, ◌+◌, Bool, true, false, cond, ◌&&◌, List, [], ◌∷◌, ◌++◌, length, take, drop, Option, Some, None, slice_get, arith, refl, ap, sym, subst, ◌∙◌}
 use Rattle.std.specs.Char.{to_ascii_lowercase}
 use Rattle.std.specs.Cmp.Lexicographic.{slice_cmp}
-use Rattle.std.specs.List.{enumerate_from, filter, list_all}
+use Rattle.std.specs.List.{enumerate_from, filter}
 use Rattle.std.specs.Ordering.{nat_cmp}
 use Rattle.std.specs.declared.cmp.Ordering.{Ordering}
 use Rattle.std.specs.declared.cmp.Ordering.TheVariants.{Less, Equal, Greater}
 use Rattle.std.proofs.lemmas.Bool.{and_parts}
-use Rattle.std.proofs.lemmas.Bool.Decides.{nat_tests}
 use Rattle.std.proofs.lemmas.Cmp.{nat_list_cmp_total, tied_itself}
-use Rattle.std.proofs.lemmas.List.{length-map, take_all}
+use Rattle.std.proofs.lemmas.List.{length-map, map-append, take_all}
 use Rattle.std.proofs.lemmas.Option.{same_Some}
 use Rattle.std.proofs.lemmas.Slice.Eq.{bytes_eq-Decides}
 use Rattle.cm_text.specs.BeginLaws.{begins_whole, length-whole, lower}
 use Rattle.cm_text.specs.Case.{begins_with, equals}
 use Rattle.cm_tables.specs.Look.{by_equal, candidates, equal_entries, exact, found_at, is_recognised, look}
-use Rattle.cm_tables.specs.Order.{by_order, is_keyword, is_keyword_byte, is_target, order_fault, table_fault, target_fault, targets_fault, text_fault, texts_fault}
+use Rattle.cm_tables.specs.Order.{by_order, is_keyword, is_target, order_fault, table_fault, target_fault, targets_fault, text_fault, text_order, texts_fault}
 use Rattle.cm_tables.specs.declared.entry.Entry.{Entry}
 use Rattle.cm_tables.specs.declared.entry.Flag.{Flag}
 use Rattle.cm_tables.specs.declared.entry.Flag.TheVariants.{Plain, Invisible, NoRecognise, Short}
@@ -63,26 +62,14 @@ equals_whole : (text atom : List ℕ) → begins_with text atom ≡ true
     → equals text (atom ++ drop (length atom) text) ≡ true
 equals_whole text atom begins = equals_of_begins text _ (length-whole text atom begins) (begins_whole text atom begins)
 
--- a keyword's bytes differ still without the case of letters
-byte_same : (byte other : ℕ) → is_keyword_byte byte ≡ true → is_keyword_byte other ≡ true
-    → to_ascii_lowercase byte ≡ to_ascii_lowercase other → byte ≡ other
-byte_same byte other first second same = grind (arith, nat_tests)
-
-bytes_same : (text other : List ℕ) → list_all is_keyword_byte text ≡ true → list_all is_keyword_byte other ≡ true
-    → lower text ≡ lower other → text ≡ other
-bytes_same [] [] first second same = refl
-bytes_same [] (next ∷ other) first second same = cc
-bytes_same (byte ∷ text) [] first second same = cc
-bytes_same (byte ∷ text) (next ∷ other) first second same =
-    let one = and_parts _ _ first in
-    let two = and_parts _ _ second in
-    let head : byte ≡ next = byte_same byte next one.0 two.0 (cc) in
-    let rest : text ≡ other = bytes_same text other one.1 two.1 (cc) in
-    cc
-
-keyword_same : (text other : List ℕ) → is_keyword text ≡ true → is_keyword other ≡ true → lower text ≡ lower other
-    → text ≡ other
-keyword_same text other first second same = bytes_same text other (and_parts _ _ first).1 (and_parts _ _ second).1 same
+equals_more : (text atom rest : List ℕ) → begins_with text atom ≡ true → equals (drop (length atom) text) rest ≡ true
+    → equals text (atom ++ rest) ≡ true
+equals_more text atom rest begins same =
+    same_lower text (atom ++ rest)
+    (lower_same text _ (equals_whole text atom begins)
+    ∙ map-append to_ascii_lowercase atom (drop (length atom) text)
+    ∙ ap (λ (low : List ℕ). lower atom ++ low) (lower_same _ rest same)
+    ∙ sym (map-append to_ascii_lowercase atom rest))
 
 -- a text with no fault is a keyword
 pub keyword_of : (place : ℕ) (before : Option (List ℕ)) (text : List ℕ) → text_fault place before text ≡ None
@@ -100,22 +87,21 @@ above_of place Less none = refl
 above_of place Equal none = cc
 above_of place Greater none = cc
 
--- each text is a keyword above the one before them all
+-- each text is above the one before them all
 all_above : (place : ℕ) (before : List ℕ) (entries : List Entry) (at : ℕ) (entry : Entry)
     → texts_fault place (Some before) entries ≡ None → slice_get entries at ≡ Some entry
-    → (is_keyword entry.text ≡ true) × (slice_cmp nat_cmp before entry.text ≡ Less)
+    → text_order before entry.text ≡ Less
 all_above place before [] at entry none is = cc
 all_above place before (first ∷ more) zero entry none is =
     let both = both-none _ _ none in
     let text = keyword_of place (Some before) first.text both.0 in
     let same : first ≡ entry = same_Some first entry is in
-    subst (λ (e : Entry). (is_keyword e.text ≡ true) × (slice_cmp nat_cmp before e.text ≡ Less)) same
-    (text.0, above_of place _ text.1)
+    subst (λ (e : Entry). text_order before e.text ≡ Less) same (above_of place _ text.1)
 all_above place before (first ∷ more) (suc at) entry none is =
     let both = both-none _ _ none in
     let text = keyword_of place (Some before) first.text both.0 in
     let later = all_above (place + 1) first.text more at entry both.1 is in
-    (later.0, nat_list_cmp_total.trans before first.text entry.text (above_of place _ text.1) later.1)
+    nat_list_cmp_total.trans (lower before) (lower first.text) (lower entry.text) (above_of place _ text.1) later
 
 -- the entries that pass a test, each with its position
 abbrev passing : (Entry → Bool) → ℕ → List Entry → List (ℕ × Entry)
@@ -134,24 +120,21 @@ first_is whole fault place before (first ∷ more) zero entry none is equal =
 first_is whole fault place before (first ∷ more) (suc at) entry none is equal =
     let both = both-none _ _ none in
     let later = all_above (fault + 1) first.text more at entry both.1 is in
-    let text = keyword_of fault before first.text both.0 in
     let next = first_is whole (fault + 1) (place + 1) (Some first.text) more at entry both.1 is equal in
-    by (equals first.text whole) refl text.0 later next
+    by (equals first.text whole) refl later next
   where
     rest : List (ℕ × Entry)
     rest = passing (λ e. equals e.text whole) (place + 1) more
 
-    by : (test : Bool) → equals first.text whole ≡ test → is_keyword first.text ≡ true
-        → (is_keyword entry.text ≡ true) × (slice_cmp nat_cmp first.text entry.text ≡ Less)
+    by : (test : Bool) → equals first.text whole ≡ test → text_order first.text entry.text ≡ Less
         → (others : List (ℕ × Entry)) × (rest ≡ (place + 1 + at, entry) ∷ others)
         → (others : List (ℕ × Entry)) × (cond test ((place, first) ∷ rest) rest ≡ (place + suc at, entry) ∷ others)
-    by true is_equal keyword later next =
-        let lowers = lower_same first.text whole is_equal ∙ sym (lower_same entry.text whole equal) in
-        let same = keyword_same first.text entry.text keyword later.0 lowers in
-        let tied = tied_itself nat_list_cmp_total first.text in
-        let less = ap (slice_cmp nat_cmp first.text) same ∙ later.1 in
+    by true is_equal later next =
+        let same = lower_same first.text whole is_equal ∙ sym (lower_same entry.text whole equal) in
+        let tied = tied_itself nat_list_cmp_total (lower first.text) in
+        let less = ap (slice_cmp nat_cmp (lower first.text)) same ∙ later in
         cc
-    by false is_equal keyword later next =
+    by false is_equal later next =
         let places : place + 1 + at ≡ place + suc at = omega arith in
         (next.0, next.1 ∙ ap (λ n. (n, entry) ∷ next.0) places)
 
@@ -279,9 +262,16 @@ whole_finds table whole at entry none reads recognised equal =
     ap (λ (same : List (ℕ × Entry)). by_equal same (candidates table whole)) first.1
     ∙ exact_itself (0 + at) entry.flag recognised ∙ ap looks.Exact from
 
+-- with what is missing of its text, in whatever case, an atom that is found finds the entry
+pub completed_in_any_case : (table : List Entry) (atom : List ℕ) (at : ℕ) (entry : Entry) → table_fault table ≡ None
+    → found_at (look table atom) ≡ Some at → slice_get table at ≡ Some entry → (rest : List ℕ)
+    → equals (drop (length atom) entry.text) rest ≡ true → look table (atom ++ rest) ≡ looks.Exact at
+completed_in_any_case table atom at entry none is reads rest same =
+    let finds = found table atom at entry none is reads in
+    whole_finds table _ at entry none reads finds.0 (equals_more entry.text atom rest finds.1 same)
+
 pub completed_is_exact : (table : List Entry) (atom : List ℕ) (at : ℕ) (entry : Entry) → table_fault table ≡ None
     → found_at (look table atom) ≡ Some at → slice_get table at ≡ Some entry
     → look table (atom ++ drop (length atom) entry.text) ≡ looks.Exact at
 completed_is_exact table atom at entry none is reads =
-    let finds = found table atom at entry none is reads in
-    whole_finds table _ at entry none reads finds.0 (equals_whole entry.text atom finds.1)
+    completed_in_any_case table atom at entry none is reads _ (same_lower _ _ refl)

@@ -1,7 +1,6 @@
 -- The places of the entries of a table to an atom rise, so that halving finds the first that begins with it.
-use Rattle.std.proofs.Common.{◌≡◌, ℕ, Bool, zero, suc, ◌<◌, ◌≤◌, true, false, List, [], ◌∷◌, length, length-take, get_or, take, drop, arith, refl, sym, subst, ◌∙◌}
+use Rattle.std.proofs.Common.{◌≡◌, ℕ, Bool, zero, suc, ◌≤◌, true, false, List, [], ◌∷◌, length, length-take, get_or, take, drop, arith, refl, sym, subst, ◌∙◌}
 use Rattle.std.specs.Char.{to_ascii_lowercase}
-use Rattle.std.specs.Cmp.Lexicographic.{slice_cmp}
 use Rattle.std.specs.List.{list_all}
 use Rattle.std.specs.List.Sorted.{IsNonDecreasingBy, IsPartitionedBy, IsPartitionPoint}
 use Rattle.std.specs.Ordering.{is_eq, nat_cmp, ordering_index, ordering_then}
@@ -14,46 +13,40 @@ use Rattle.cm_lists.proofs.Numbers.{nat_cmp_equal}
 use Rattle.cm_lists.proofs.Orders.{is_lt_by_index, lt_is_not_eq, ordering_index_then_less, ordering_index_then_same}
 use Rattle.cm_lists.proofs.Quantifiers.{AllByRecursion-at, AllByRecursion-drop_within, AllByRecursion-take, AllByRecursion_then}
 use Rattle.cm_text.specs.Case.{begins_with, equals}
-use Rattle.cm_tables.specs.Order.{is_keyword, is_keyword_byte}
+use Rattle.cm_tables.specs.Order.{is_keyword, is_keyword_byte, text_order}
 use Rattle.cm_tables.specs.Search.{Ascends, IsFrom, is_below, place}
 use Rattle.cm_tables.specs.declared.entry.Entry.{Entry}
 
--- a keyword's bytes keep their order in small letters
-pub keeps_order : (byte other : ℕ) → is_keyword_byte byte ≡ true → is_keyword_byte other ≡ true
-    → nat_cmp (to_ascii_lowercase byte) (to_ascii_lowercase other) ≡ nat_cmp byte other
-keeps_order byte other first second = grind (arith, nat_tests)
-
--- of two keywords the lower has no higher place
-pub rising : (text other atom : List ℕ) → list_all is_keyword_byte text ≡ true → list_all is_keyword_byte other ≡ true
-    → slice_cmp nat_cmp text other ≡ Less → ordering_index (place text atom) ≤ ordering_index (place other atom)
-rising text other [] first second less = omega arith
-rising [] other (next ∷ atom) first second less = omega arith
-rising (byte ∷ text) [] (next ∷ atom) first second less = cc
-rising (byte ∷ text) (its ∷ other) (next ∷ atom) first second less =
-    let one = and_parts _ _ first in
-    let two = and_parts _ _ second in
-    let keeps = keeps_order byte its one.0 two.0 in
-    by (nat_cmp byte its) refl keeps less (rising text other atom one.1 two.1)
+-- of two texts the lower has no higher place
+pub rising : (text other atom : List ℕ) → text_order text other ≡ Less
+    → ordering_index (place text atom) ≤ ordering_index (place other atom)
+rising text other [] less = omega arith
+rising [] other (next ∷ atom) less = omega arith
+rising (byte ∷ text) [] (next ∷ atom) less = cc
+rising (byte ∷ text) (its ∷ other) (next ∷ atom) less = by (nat_cmp low second) refl less (rising text other atom)
   where
-    by : (order : Ordering) → nat_cmp byte its ≡ order
-        → nat_cmp (to_ascii_lowercase byte) (to_ascii_lowercase its) ≡ nat_cmp byte its
-        → ordering_then order (slice_cmp nat_cmp text other) ≡ Less
-        → (slice_cmp nat_cmp text other ≡ Less → ordering_index (place text atom) ≤ ordering_index (place other atom))
-        → ordering_index (place (byte ∷ text) (next ∷ atom)) ≤ ordering_index (place (its ∷ other) (next ∷ atom))
-    by Less is keeps less later =
-        ordering_index_then_less (to_ascii_lowercase byte) (to_ascii_lowercase its) (to_ascii_lowercase next) _ _ (keeps ∙ is)
-    by Equal is keeps less later =
-        rw (nat_cmp_equal byte its is) (ordering_index_then_same (to_ascii_lowercase its) (to_ascii_lowercase next) _ _ (later less))
-    by Greater is keeps less later = cc
+    low : ℕ
+    low = to_ascii_lowercase byte
+
+    second : ℕ
+    second = to_ascii_lowercase its
+
+    mark : ℕ
+    mark = to_ascii_lowercase next
+
+    by : (order : Ordering) → nat_cmp low second ≡ order → ordering_then order (text_order text other) ≡ Less
+        → (text_order text other ≡ Less → ordering_index (place text atom) ≤ ordering_index (place other atom))
+        → ordering_index (ordering_then (nat_cmp low mark) (place text atom))
+        ≤ ordering_index (ordering_then (nat_cmp second mark) (place other atom))
+    by Less is less later = ordering_index_then_less low second mark _ _ is
+    by Equal is less later =
+        subst (λ (byte : ℕ). ordering_index (ordering_then (nat_cmp byte mark) (place text atom))
+        ≤ ordering_index (ordering_then (nat_cmp second mark) (place other atom))) (sym (nat_cmp_equal low second is))
+        (ordering_index_then_same second mark _ _ (later less))
+    by Greater is less later = cc
 
 pub keyword_bytes : (text : List ℕ) → is_keyword text ≡ true → list_all is_keyword_byte text ≡ true
 keyword_bytes text is = (and_parts _ _ is).1
-
-is_keyword_at : (xs : List Entry) → Ascends xs → (i : ℕ) (d : Entry) → i < length xs
-    → is_keyword (get_or xs i d).text ≡ true
-is_keyword_at [] up i d within = absurd (omega arith)
-is_keyword_at (x ∷ xs) up zero d within = up.0
-is_keyword_at (x ∷ xs) up (suc i) d within = is_keyword_at xs up.2 i d (omega arith)
 
 -- the places of the entries rise
 abbrev index_of : List ℕ → Entry → ℕ
@@ -63,9 +56,8 @@ places_rise : (atom : List ℕ) (entries : List Entry) → Ascends entries → I
 places_rise atom [] up i j d le within = absurd (omega arith)
 places_rise atom (x ∷ xs) up zero zero d le within = omega arith
 places_rise atom (x ∷ xs) up zero (suc j) d le within =
-    rising x.text (get_or xs j d).text atom (keyword_bytes x.text up.0)
-    (keyword_bytes (get_or xs j d).text (is_keyword_at xs up.2 j d (omega arith)))
-    (AllByRecursion-at (λ later. slice_cmp nat_cmp x.text later.text ≡ Less) xs up.1 j d (omega arith))
+    rising x.text (get_or xs j d).text atom
+    (AllByRecursion-at (λ later. text_order x.text later.text ≡ Less) xs up.1 j d (omega arith))
 places_rise atom (x ∷ xs) up (suc i) zero d le within = absurd (omega arith)
 places_rise atom (x ∷ xs) up (suc i) (suc j) d le within =
     places_rise atom xs up.2 i j d (omega arith) (omega arith)

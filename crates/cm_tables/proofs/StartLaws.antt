@@ -1,8 +1,7 @@
 -- A filter that only entries pass that begin with an atom looks at those alone that a search finds.
 use Rattle.std.proofs.Common.{◌≡◌, ℕ, ◌+◌, ◌<◌, Bool, true, false, cond, ◌&&◌, nat_eq, List, [], ◌∷◌, ◌++◌, length, get_or, drop, map, Option, Some, None, arith, refl, ap, sym, subst, ◌∙◌}
 use Rattle.std.specs.Char.{to_ascii_lowercase}
-use Rattle.std.specs.Cmp.Lexicographic.{slice_cmp}
-use Rattle.std.specs.List.{AllByRecursion, enumerate_from, filter, list_all, list_any, position}
+use Rattle.std.specs.List.{AllByRecursion, enumerate_from, filter, list_any, position}
 use Rattle.std.specs.Ordering.{is_eq, is_lt, nat_cmp, ordering_then}
 use Rattle.std.specs.declared.cmp.Ordering.{Ordering}
 use Rattle.std.specs.declared.cmp.Ordering.TheVariants.{Less, Equal, Greater}
@@ -12,28 +11,29 @@ use Rattle.std.proofs.lemmas.Cmp.{nat_list_cmp_total}
 use Rattle.std.proofs.lemmas.List.{drop_more}
 use Rattle.cm_lists.proofs.Orders.{not_eq_by_index}
 use Rattle.cm_lists.proofs.Quantifiers.{AllByRecursion_then, any_after, any_first}
+use Rattle.cm_text.specs.BeginLaws.{lower}
 use Rattle.cm_text.specs.Case.{begins_with, equals}
 use Rattle.cm_tables.specs.Listing.{is_listed, is_plain}
 use Rattle.cm_tables.specs.Look.{abbreviated, by_equal, candidates, equal_entries, exact, has_text, is_recognised, look}
-use Rattle.cm_tables.specs.Order.{is_keyword, is_keyword_byte, table_fault, texts_fault}
+use Rattle.cm_tables.specs.Order.{table_fault, text_order, texts_fault}
 use Rattle.cm_tables.specs.Search.{AreNotBelow, Ascends, IsFrom, candidates_from, is_below, is_first, place, wholes}
 use Rattle.cm_tables.specs.declared.entry.Entry.{Entry}
 use Rattle.cm_tables.proofs.CommonLemmas.{rests_from}
 use Rattle.cm_tables.proofs.FoundLemmas.{above_of, begins_of_equals, keyword_of, no-texts_fault}
-use Rattle.cm_tables.proofs.PlaceLaws.{begins_at, keeps_order, keyword_bytes, rising}
+use Rattle.cm_tables.proofs.PlaceLaws.{begins_at, rising}
 use Rattle.cm_tables.proofs.ListedEntries.{listed_of}
 use Rattle.cm_tables.proofs.WithinLemmas.{both-none}
 
 -- the texts of a table ascend
 above_all : (fault : ℕ) (before : List ℕ) (entries : List Entry) → texts_fault fault (Some before) entries ≡ None
-    → AllByRecursion (λ (later : Entry). slice_cmp nat_cmp before later.text ≡ Less) entries
+    → AllByRecursion (λ (later : Entry). text_order before later.text ≡ Less) entries
 above_all fault before [] none = tt
 above_all fault before (first ∷ more) none =
     let both = both-none _ _ none in
     let text = keyword_of fault (Some before) first.text both.0 in
     let head = above_of fault _ text.1 in (
       head,
-      AllByRecursion_then _ _ (λ (later : Entry) is. nat_list_cmp_total.trans before first.text later.text head is) more
+      AllByRecursion_then _ _ (λ (later : Entry) is. nat_list_cmp_total.trans (lower before) (lower first.text) (lower later.text) head is) more
           (above_all (fault + 1) first.text more both.1),
     )
 
@@ -118,22 +118,18 @@ rests_in atom entries start after is =
     ∙ ap (map (λ (e : ℕ × Entry). drop (length atom) e.1.text)) (candidates_in atom entries start after is)
 
 -- after an entry that does not begin with the atom none does
-none_later : (text atom : List ℕ) (more : List Entry) → is_keyword text ≡ true → is_below text atom ≡ false
-    → begins_with text atom ≡ false → AllByRecursion (λ (later : Entry). slice_cmp nat_cmp text later.text ≡ Less) more
-    → Ascends more → AllByRecursion (λ (later : Entry). begins_with later.text atom ≡ false) more
-none_later text atom [] keyword below fails above up = tt
-none_later text atom (first ∷ more) keyword below fails above up = (
-  begins_at first.text atom
-      ∙ not_eq_by_index _ _
-      (rising text first.text atom (keyword_bytes text keyword) (keyword_bytes first.text up.0) above.0)
-      below (sym (begins_at text atom) ∙ fails),
-  none_later text atom more keyword below fails above.1 up.2,
-)
+none_later : (text atom : List ℕ) (more : List Entry) → is_below text atom ≡ false → begins_with text atom ≡ false
+    → AllByRecursion (λ (later : Entry). text_order text later.text ≡ Less) more
+    → AllByRecursion (λ (later : Entry). begins_with later.text atom ≡ false) more
+none_later text atom more below fails above =
+    AllByRecursion_then _ _
+    (λ (later : Entry) less. begins_at later.text atom
+    ∙ not_eq_by_index _ _ (rising text later.text atom less) below (sym (begins_at text atom) ∙ fails)) more above
 
 none_from : (atom : List ℕ) (first : Entry) (more : List Entry) → Ascends (first ∷ more)
     → is_below first.text atom ≡ false → begins_with first.text atom ≡ false
     → AllByRecursion (λ (later : Entry). begins_with later.text atom ≡ false) (first ∷ more)
-none_from atom first more up below fails = (fails, none_later first.text atom more up.0 below fails up.1 up.2)
+none_from atom first more up below fails = (fails, none_later first.text atom more below fails up.1)
 
 no_candidates : (position : ℕ) (atom : List ℕ) (entries : List Entry)
     → AllByRecursion (λ (entry : Entry). begins_with entry.text atom ≡ false) entries
@@ -170,49 +166,46 @@ pub listed_stop : (position : ℕ) (atom : List ℕ) (entries : List Entry) (i :
 listed_stop position atom entries i entry within is fails above up =
     none_listed position atom (drop i entries) (stops atom entries i entry within is fails above up)
 
--- a keyword that is the atom has none below it that begins with the atom
-none_shorter : (text other atom : List ℕ) → list_all is_keyword_byte text ≡ true → list_all is_keyword_byte other ≡ true
-    → is_eq (place text atom) ≡ true → equals other atom ≡ true → is_lt (slice_cmp nat_cmp text other) ≡ false
+-- a text that is the atom has none below it that begins with the atom
+none_shorter : (text other atom : List ℕ) → is_eq (place text atom) ≡ true → equals other atom ≡ true
+    → is_lt (text_order text other) ≡ false
 unfolding equals
-none_shorter [] [] [] first second begins equal = refl
-none_shorter (byte ∷ text) [] [] first second begins equal = refl
-none_shorter text (its ∷ other) [] first second begins equal = cc
-none_shorter text [] (next ∷ atom) first second begins equal = cc
-none_shorter [] (its ∷ other) (next ∷ atom) first second begins equal = cc
-none_shorter (byte ∷ text) (its ∷ other) (next ∷ atom) first second begins equal =
-    let one = and_parts _ _ first in
-    let two = and_parts _ _ second in
+none_shorter [] [] [] begins equal = refl
+none_shorter (byte ∷ text) [] [] begins equal = refl
+none_shorter text (its ∷ other) [] begins equal = cc
+none_shorter text [] (next ∷ atom) begins equal = cc
+none_shorter [] (its ∷ other) (next ∷ atom) begins equal = cc
+none_shorter (byte ∷ text) (its ∷ other) (next ∷ atom) begins equal =
     let both = and_parts _ _ equal in
     by (nat_cmp (to_ascii_lowercase byte) (to_ascii_lowercase next)) refl begins both.0
-    (keeps_order byte its one.0 two.0) (λ begins. none_shorter text other atom one.1 two.1 begins both.1)
+    (λ begins. none_shorter text other atom begins both.1)
   where
     by : (order : Ordering) → nat_cmp (to_ascii_lowercase byte) (to_ascii_lowercase next) ≡ order
         → is_eq (ordering_then order (place text atom)) ≡ true
         → nat_eq (to_ascii_lowercase its) (to_ascii_lowercase next) ≡ true
-        → nat_cmp (to_ascii_lowercase byte) (to_ascii_lowercase its) ≡ nat_cmp byte its
-        → (is_eq (place text atom) ≡ true → is_lt (slice_cmp nat_cmp text other) ≡ false)
-        → is_lt (ordering_then (nat_cmp byte its) (slice_cmp nat_cmp text other)) ≡ false
-    by Less is begins equal keeps later = cc
-    by Equal is begins equal keeps later =
-        let same : nat_cmp byte its ≡ Equal = sym keeps ∙ grind (arith, nat_tests) in
-        rw same (later begins)
-    by Greater is begins equal keeps later = cc
+        → (is_eq (place text atom) ≡ true → is_lt (text_order text other) ≡ false)
+        → is_lt (ordering_then (nat_cmp (to_ascii_lowercase byte) (to_ascii_lowercase its)) (text_order text other)) ≡ false
+    by Less is begins equal later = cc
+    by Equal is begins equal later =
+        let same : nat_cmp (to_ascii_lowercase byte) (to_ascii_lowercase its) ≡ Equal = grind (arith, nat_tests) in
+        ap (λ (order : Ordering). is_lt (ordering_then order (text_order text other))) same ∙ later begins
+    by Greater is begins equal later = cc
 
 -- so only the first of those that begin with the atom may be the atom
-none_equal : (text atom : List ℕ) (entries : List Entry) → is_keyword text ≡ true → begins_with text atom ≡ true
-    → AllByRecursion (λ (later : Entry). slice_cmp nat_cmp text later.text ≡ Less) entries → Ascends entries
+none_equal : (text atom : List ℕ) (entries : List Entry) → begins_with text atom ≡ true
+    → AllByRecursion (λ (later : Entry). text_order text later.text ≡ Less) entries
     → AllByRecursion (λ (entry : Entry). equals entry.text atom ≡ false) entries
-none_equal text atom [] keyword begins above up = tt
-none_equal text atom (first ∷ more) keyword begins above up =
-    (by (equals first.text atom) refl, none_equal text atom more keyword begins above.1 up.2)
+none_equal text atom entries begins above = AllByRecursion_then _ _ (λ (entry : Entry) less. one entry less) entries above
   where
-    by : (test : Bool) → equals first.text atom ≡ test → test ≡ false
-    by true equal =
-        let not_lt = none_shorter text first.text atom (keyword_bytes text keyword) (keyword_bytes first.text up.0)
-        (sym (begins_at text atom) ∙ begins) equal in
-        let is_below = ap is_lt above.0 in
-        cc
-    by false equal = refl
+    one : (entry : Entry) → text_order text entry.text ≡ Less → equals entry.text atom ≡ false
+    one entry less = by (equals entry.text atom) refl
+      where
+        by : (test : Bool) → equals entry.text atom ≡ test → test ≡ false
+        by true equal =
+            let not_lt = none_shorter text entry.text atom (sym (begins_at text atom) ∙ begins) equal in
+            let is_below = ap is_lt less in
+            cc
+        by false equal = refl
 
 unequal : (text atom : List ℕ) → begins_with text atom ≡ false → equals text atom ≡ false
 unequal text atom fails = by (equals text atom) refl
@@ -228,10 +221,10 @@ none_after atom first more up below = by (begins_with first.text atom) refl
   where
     by : (test : Bool) → begins_with first.text atom ≡ test
         → AllByRecursion (λ (later : Entry). equals later.text atom ≡ false) more
-    by true begins = none_equal first.text atom more up.0 begins up.1 up.2
+    by true begins = none_equal first.text atom more begins up.1
     by false fails =
         AllByRecursion_then _ _ (λ later fails. unequal later.text atom fails) more
-        (none_later first.text atom more up.0 below fails up.1 up.2)
+        (none_later first.text atom more below fails up.1)
 
 equal_in : (atom : List ℕ) (entries : List Entry) (start : ℕ) (after : List Entry) → IsFrom atom entries start after
     → passing (λ entry. equals entry.text atom) start after ≡ equal_entries entries atom

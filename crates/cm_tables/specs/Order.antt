@@ -2,10 +2,11 @@
 use Rattle.std.specs.Prelude.{ℕ, ◌+◌, Bool, true, false, ◌&&◌, ◌||◌, ◌==◌, if◌then◌else◌, nat_lt, List, [], ◌∷◌, length, Option, Some, None, slice_get}
 use Rattle.std.specs.List.{list_all}
 use Rattle.std.specs.Option.{option_map_or}
-use Rattle.std.specs.Char.{is_ascii_uppercase, is_ascii_digit}
+use Rattle.std.specs.Char.{is_ascii_alphanumeric}
 use Rattle.std.specs.declared.cmp.Ordering.{Ordering}
 use Rattle.std.specs.Ordering.{nat_cmp}
 use Rattle.std.specs.Cmp.Lexicographic.{slice_cmp}
+use Rattle.cm_text.specs.BeginLaws.{lower}
 use Rattle.cm_text.specs.Bytes.{is_shown}
 use Rattle.cm_text.specs.Case.{begins_with}
 use Rattle.cm_tables.specs.Look.{is_recognised}
@@ -17,13 +18,17 @@ use Rattle.cm_tables.specs.declared.table.TableFault.{TableFault}
 use Rattle.cm_tables.specs.declared.table.TableFault.TheVariants.{TooMany, BadText, Repeat, Order, BadTarget, BadHelp}
 use Rattle.std.specs.declared.cmp.Ordering.TheVariants.{Less, Equal, Greater}
 
--- an upper-case letter, a digit or a hyphen
+-- a letter, a digit or a hyphen
 abbrev pub is_keyword_byte : ℕ → Bool
-is_keyword_byte byte = is_ascii_uppercase byte || is_ascii_digit byte || byte == 45
+is_keyword_byte byte = is_ascii_alphanumeric byte || byte == 45
 
 -- at least one such byte and no other
 abbrev pub is_keyword : List ℕ → Bool
 is_keyword text = nat_lt 0 (length text) && list_all is_keyword_byte text
+
+-- the order of two texts, with no regard to the case of letters
+abbrev pub text_order : List ℕ → List ℕ → Ordering
+text_order text other = slice_cmp nat_cmp (lower text) (lower other)
 
 -- the first of two faults
 abbrev pub first_fault : Option TableFault → Option TableFault → Option TableFault
@@ -38,7 +43,7 @@ by_order position Greater = Some (Order position)
 
 abbrev pub order_fault : ℕ → Option (List ℕ) → List ℕ → Option TableFault
 order_fault position None text = None
-order_fault position (Some before) text = by_order position (slice_cmp nat_cmp before text)
+order_fault position (Some before) text = by_order position (text_order before text)
 
 -- the fault of the text at a position, after the text before it
 abbrev pub text_fault : ℕ → Option (List ℕ) → List ℕ → Option TableFault

@@ -2,14 +2,13 @@
 -- begins with it.
 use Rattle.std.specs.Prelude.{◌≡◌, ℕ, Bool, true, false, not, ◌&&◌, List, [], ◌∷◌, ◌++◌, filter, length}
 use Rattle.std.specs.Char.{to_ascii_lowercase}
-use Rattle.std.specs.Cmp.Lexicographic.{slice_cmp}
 use Rattle.std.specs.List.{AllByRecursion, enumerate_from}
 use Rattle.std.specs.Ordering.{is_lt, nat_cmp, ordering_then}
 use Rattle.std.specs.declared.cmp.Ordering.{Ordering}
 use Rattle.std.specs.declared.cmp.Ordering.TheVariants.{Less, Equal}
 use Rattle.cm_text.specs.Case.{begins_with, equals}
 use Rattle.cm_tables.specs.Look.{is_recognised}
-use Rattle.cm_tables.specs.Order.{is_keyword}
+use Rattle.cm_tables.specs.Order.{is_keyword, text_order}
 use Rattle.cm_tables.specs.declared.entry.Entry.{Entry}
 
 -- whether a text is below those that begin with the atom, among them or above them
@@ -23,7 +22,7 @@ place (byte ∷ text) (next ∷ atom) =
 abbrev pub Ascends : List Entry → Type 0
 Ascends [] = Unit {0}
 Ascends (entry ∷ more) =
-    (is_keyword entry.text ≡ true) × AllByRecursion (λ later. slice_cmp nat_cmp entry.text later.text ≡ Less) more
+    (is_keyword entry.text ≡ true) × AllByRecursion (λ later. text_order entry.text later.text ≡ Less) more
     × Ascends more
 
 -- a text is below those that begin with the atom

@@ -1,20 +1,34 @@
 // How the entries go on alike that an atom may abbreviate.
-ghost use Rattle.std.specs.Prelude.{◌≡◌, ◌≤◌, drop, length};
+ghost use Rattle.std.specs.Prelude.{◌≡◌, ◌≤◌, drop, length, nat_eq};
+ghost use Rattle.std.specs.List.{common_prefix_len};
 ghost use Rattle.std.specs.Option.{option_copied, option_map_or};
 ghost use Rattle.std.specs.Str.{IsAscii};
-ghost use Rattle.cm_tables.specs.Common.{common, shared};
+ghost use Rattle.cm_text.specs.BeginLaws.{lower};
+ghost use Rattle.cm_tables.specs.Common.{common, shared_letters};
 ghost use Rattle.cm_tables.specs.Search.{Ascends};
 
 use crate::Entry;
 use crate::start::from_first;
-use cm_text::{NAME_LIMIT, Name, begins_with, common_len};
+use cm_text::{NAME_LIMIT, Name, begins_with};
 
-// The longest text that both begin with.
+// How many bytes two texts begin with alike, with no regard to the case of letters.
+fn shared_len(text: &[u8], other: &[u8]) -> usize
+    ensures value { result ≡ common_prefix_len nat_eq (lower text.now) (lower other.now) }
+    ensures within_text { result ≤ length text.now }
+    ensures within_other { result ≤ length other.now }
+{
+    text.iter()
+        .zip(other)
+        .take_while(|(byte, other)| byte.eq_ignore_ascii_case(other))
+        .count()
+}
+
+// The longest text that both begin with but for the case of letters, as the first has it.
 fn shared<'a>(text: &'a [u8], other: &[u8]) -> &'a [u8]
-    ensures value { result.now ≡ shared text.now other.now }
+    ensures value { result.now ≡ shared_letters text.now other.now }
     ensures within { length result.now ≤ length other.now }
 {
-    &text[..common_len(text, other)]
+    &text[..shared_len(text, other)]
 }
 
 // What is after an atom in an entry that is no shorter.
@@ -28,7 +42,8 @@ fn rest<'a>(entry: &'a Entry, atom: &[u8]) -> &'a [u8]
 
 // What a text shares with those that were found before it.
 fn shared_with<'a>(found: Option<&'a [u8]>, text: &'a [u8]) -> &'a [u8]
-    ensures value { result.now ≡ option_map_or (λ before. shared before text.now) (option_copied found.entry) text.now }
+    ensures value { result.now
+        ≡ option_map_or (λ before. shared_letters before text.now) (option_copied found.entry) text.now }
     ensures within { length result.now ≤ length text.now }
 {
     match found {

@@ -30,7 +30,7 @@ impl Flag {
 /// A keyword, and what it stands for.
 #[derive(Debug, Drop)]
 pub struct Entry {
-    /// The keyword: upper-case letters, digits and hyphens.
+    /// The keyword: letters, digits and hyphens.
     pub text: Name,
     /// How it takes part in the look-up.
     pub flag: Flag,

@@ -1,7 +1,7 @@
 // The first fault of a list of entries that is no table.
 ghost use Rattle.std.specs.Prelude.{◌≡◌, ◌<◌, ◌≤◌, ℕ, List, None, IfNone, length, slice_get};
 ghost use Rattle.std.specs.Option.{option_copied};
-ghost use Rattle.cm_tables.specs.Order.{has_help, helps_fault, is_keyword_byte, is_keyword, is_target, target_fault, targets_fault, text_fault, texts_fault, table_fault};
+ghost use Rattle.cm_tables.specs.Order.{has_help, helps_fault, is_keyword_byte, is_keyword, is_target, target_fault, targets_fault, text_fault, text_order, texts_fault, table_fault};
 
 use crate::{Entry, Flag, TableFault};
 use cm_text::{begins_with, is_shown};
@@ -13,13 +13,21 @@ pub(crate) const ENTRY_LIMIT: usize = 1024;
 fn is_keyword_byte(byte: u8) -> bool
     ensures { result ≡ is_keyword_byte byte }
 {
-    byte.is_ascii_uppercase() || byte.is_ascii_digit() || byte == b'-'
+    byte.is_ascii_alphanumeric() || byte == b'-'
 }
 
 fn is_keyword(text: &[u8]) -> bool
     ensures { result ≡ is_keyword text.now }
 {
     !text.is_empty() && text.iter().all(|byte| is_keyword_byte(*byte))
+}
+
+// The order of two texts, with no regard to the case of letters.
+fn text_order(text: &[u8], other: &[u8]) -> Ordering
+    ensures { result ≡ text_order text.now other.now }
+{
+    let letters = text.iter().map(|byte| byte.to_ascii_lowercase());
+    letters.cmp(other.iter().map(|byte| byte.to_ascii_lowercase()))
 }
 
 // The fault of one text, after the text before it.
@@ -29,7 +37,7 @@ fn text_fault(position: u16, before: Option<&[u8]>, text: &[u8]) -> Option<Table
     if !is_keyword(text) {
         return Some(TableFault::BadText(position));
     }
-    match before?.cmp(text) {
+    match text_order(before?, text) {
         Ordering::Less => None,
         Ordering::Equal => Some(TableFault::Repeat(position)),
         Ordering::Greater => Some(TableFault::Order(position)),

@@ -18,13 +18,13 @@ pub enum TableFault {
     /// There are more than 1,024 entries.
     #[error("TooMany")]
     TooMany,
-    /// The text is empty, or has a byte that is no upper-case letter, digit or hyphen.
+    /// The text is empty, or has a byte that is no letter, digit or hyphen.
     #[error("BadText")]
     BadText(u16),
-    /// The text is that of the entry before it.
+    /// The text is that of the entry before it, with no regard to the case of letters.
     #[error("Repeat")]
     Repeat(u16),
-    /// The text is below that of the entry before it.
+    /// The text is below that of the entry before it, with no regard to the case of letters.
     #[error("Order")]
     Order(u16),
     /// A Short entry stands for no entry that may be abbreviated and whose text begins with its own.
@@ -48,7 +48,8 @@ pub enum Look {
     Exact(u16),
 }
 
-/// A keyword table: at most 1,024 entries, their texts in ascending order. Contracts see its entries.
+/// A keyword table: at most 1,024 entries, their texts in ascending order, with no
+/// regard to the case of letters. Contracts see its entries.
 #[derive(Debug, Drop)]
 pub struct Table {
     entries: Vec<Entry>,
@@ -157,7 +158,8 @@ impl Table {
     }
 
     /// The longest text with which all entries go on after the atom that it may abbreviate, so that it can be
-    /// completed as far as it is certain (COMND's recognition). It is empty where there is no such entry.
+    /// completed as far as it is certain (COMND's recognition). They go on alike with no regard to the case of letters;
+    /// the text is as the first of them has it. It is empty where there is no such entry.
     #[tactic(auto, using(crate::proofs::StartLaws::ascends_of))]
     pub fn common(&self, atom: &[u8]) -> Name
         ensures value { result ≡ common self.now atom.now }

@@ -1,7 +1,7 @@
 use Rattle.std.proofs.Common.{◌≡◌, ℕ, [], ap, arith, drop, length, map, rules, sym, unwrap_or, ◌∙◌}
 use Rattle.std.specs.List.{reduce}
 use Rattle.std.specs.Option.{option_copied}
-use Rattle.cm_tables.specs.Common.{common, shared}
+use Rattle.cm_tables.specs.Common.{common, shared_letters}
 use Rattle.cm_tables.specs.declared.entry.Entry.{Entry}
 use Rattle.cm_tables.proofs.CommonLemmas.{rests_from, sharing}
 use Rattle.cm_tables.proofs.StartLaws.{candidates_stop, rests_in}
@@ -11,7 +11,7 @@ pub loop-entry-init : goal.loop-entry-init
 loop-entry-init c =
     let is = c.from_first.ensures.first in
     record {
-      same = ap (reduce shared) (rests_in c.args.atom.now c.args.entries.now _ c.from_first.result.1.now is);
+      same = ap (reduce shared_letters) (rests_in c.args.atom.now c.args.entries.now _ c.from_first.result.1.now is);
       short = tt;
       above = is.above;
       ascends = is.ascends;
