@@ -2,6 +2,8 @@ pub mod Ends
 pub mod FieldStarts
 pub mod LineEnds
 pub mod Marks
+pub mod Numerals
+pub mod Outsides
 pub mod Phrases
 pub mod QuotedNames
 pub mod QuotedTexts

@@ -7,6 +7,7 @@ use Rattle.std.proofs.lemmas.Bool.Decides.{nat_tests}
 use Rattle.cm_lists.proofs.Bools.{cond_each}
 use Rattle.cm_text.specs.Case.{begins_with}
 use Rattle.cm_text.specs.declared.name.TheConstants.{NAME_LIMIT}
+use Rattle.cm_text.specs.declared.text.TheConstants.{LINE_LIMIT}
 use Rattle.cm_fields.specs.declared.code.Code.{Code}
 use Rattle.cm_fields.specs.declared.quotes.Closing.{Closing}
 use Rattle.cm_fields.specs.declared.quotes.Closing.TheVariants.{Closed, Cut, Unknown}
@@ -14,7 +15,7 @@ use Rattle.cm_fields.specs.declared.value.Value.{Value}
 use Rattle.cm_fields.specs.Finish.{Decides, DecidesFinished, has_no_end}
 use Rattle.cm_fields.specs.Mark.{comma, confirm}
 use Rattle.cm_fields.specs.Phrase.{is_inside, noise, same_letter, token, typed_noise}
-use Rattle.cm_fields.specs.Quoted.{by_closing, closing, is_cut, quoted}
+use Rattle.cm_fields.specs.Quoted.{by_closing_of, closing, is_cut, long_quoted, quoted, quoted_of}
 use Rattle.cm_fields.specs.Try.{by_run, said}
 
 -- a run that the end of the line is no part of ends before it
@@ -111,18 +112,24 @@ closing_decides size written (byte ∷ next ∷ line) =
     (decides_less (size + 2 + length line) _ _ (omega arith) (closing_decides (size + 2) (written + 1) line)) (omega arith))
     (decides_less (size + 1 + length (next ∷ line)) _ _ (omega arith) (closing_decides (size + 1) (written + 1) (next ∷ line))))
 
-by_closing_decides : (at most : ℕ) (found : Closing) → ClosingDecides most found → Decides at (1 + most) (by_closing at found)
-by_closing_decides at most (Closed size written) decided =
-    cond_both (nat_le written NAME_LIMIT) _ _ (Decides at (1 + most)) (λ _. omega arith) (λ _. tt)
-by_closing_decides at most (Cut size) decided = tt
-by_closing_decides at most Unknown decided = absurd decided
+by_closing_decides : (limit at most : ℕ) (found : Closing) → ClosingDecides most found → Decides at (1 + most) (by_closing_of limit at found)
+by_closing_decides limit at most (Closed size written) decided =
+    cond_both (nat_le written limit) _ _ (Decides at (1 + most)) (λ _. omega arith) (λ _. tt)
+by_closing_decides limit at most (Cut size) decided = tt
+by_closing_decides limit at most Unknown decided = absurd decided
+
+quotes_decide : (limit : ℕ) → DecidesFinished (quoted_of limit)
+quotes_decide limit [] at = tt
+quotes_decide limit (byte ∷ line) at =
+    let size : 1 + (0 + length line) ≡ length (byte ∷ line) = omega arith in
+    let closed = by_closing_decides limit at (0 + length line) _ (closing_decides 0 0 line) in
+    cond_both (byte == 34) _ _ (Decides at (length (byte ∷ line))) (λ _. rw (← size) closed) (λ _. tt)
 
 pub quoted_decides : DecidesFinished quoted
-quoted_decides [] at = tt
-quoted_decides (byte ∷ line) at =
-    let size : 1 + (0 + length line) ≡ length (byte ∷ line) = omega arith in
-    let closed = by_closing_decides at (0 + length line) _ (closing_decides 0 0 line) in
-    cond_both (byte == 34) _ _ (Decides at (length (byte ∷ line))) (λ _. rw (← size) closed) (λ _. tt)
+quoted_decides = quotes_decide NAME_LIMIT
+
+pub long_quoted_decides : DecidesFinished long_quoted
+long_quoted_decides = quotes_decide LINE_LIMIT
 
 pub comma_decides : DecidesFinished comma
 comma_decides [] at = tt

@@ -77,3 +77,17 @@ byte_pushed fits name longer (byte ∷ more) rest some is_fit pushed full within
     ap (λ (it : List ℕ). unquoted (byte ∷ it)) (sym left) ∙ said in
     after fits name longer byte (unquoted rest) is_fit pushed full within
     ∙ ap (λ (it : List ℕ). take NAME_LIMIT (name ++ it)) (sym all)
+
+-- the same after bytes that have room for all
+pub said_after : (before text rest : List ℕ) → 1 ≤ length text
+    → unquoted (get_or text 0 0 ∷ take (length text - 1) (drop 1 text)) ≡ get_or text 0 0 ∷ unquoted rest
+    → (before ++ get_or text 0 0 ∷ []) ++ unquoted rest ≡ before ++ unquoted text
+said_after before [] rest some said = absurd (omega arith)
+said_after before (byte ∷ more) rest some said =
+    let left : take (length (byte ∷ more) - 1) more ≡ more = take_all _ more (omega arith) in
+    append_assoc before (byte ∷ []) (unquoted rest)
+    ∙ ap (λ (it : List ℕ). before ++ it) (sym said ∙ ap (λ (it : List ℕ). unquoted (byte ∷ it)) left)
+
+pub nothing_said : (before text : List ℕ) → length text < 1 → before ≡ before ++ unquoted text
+nothing_said before [] below = sym (append-nil before)
+nothing_said before (byte ∷ more) below = absurd (omega arith)

@@ -5,7 +5,7 @@ use Rattle.std.proofs.lemmas.List.{take_all}
 use Rattle.cm_lists.proofs.Bools.{by_test, cond_each}
 use Rattle.std.proofs.lemmas.Bool.{cond_both, ne_eqb}
 use Rattle.cm_text.specs.declared.name.TheConstants.{NAME_LIMIT}
-use Rattle.cm_text.specs.declared.text.TheConstants.{JOIN}
+use Rattle.cm_text.specs.declared.text.TheConstants.{JOIN, LINE_LIMIT}
 use Rattle.cm_fields.specs.declared.code.Code.TheVariants.{FieldLong, NotQuoted}
 use Rattle.cm_fields.specs.declared.quotes.Closing.{Closing}
 use Rattle.cm_fields.specs.declared.quotes.Closing.TheVariants.{Closed, Cut, Unknown}
@@ -14,7 +14,7 @@ use Rattle.cm_fields.specs.declared.value.Value.TheVariants.{Quoted}
 use Rattle.cm_fields.specs.declared.trial.Try.{Try}
 use Rattle.cm_fields.specs.declared.trial.Try.TheVariants.{Accept, Refuse, More}
 use Rattle.cm_fields.specs.Local.{Holds, IsLocal, IsSeen}
-use Rattle.cm_fields.specs.Quoted.{IsWithin, by_closing, closing, is_cut, quoted}
+use Rattle.cm_fields.specs.Quoted.{IsWithin, by_closing_of, closing, is_cut, long_quoted, quoted, quoted_of}
 use Rattle.cm_fields.specs.Try.{span}
 use Rattle.cm_fields.proofs.Trials.{LooksBeyond, Reaches, ReachesIfAccept, holds_beyond, holds_both, holds_same, is_local, reaches_accepted}
 
@@ -128,66 +128,81 @@ closing_holds end size written (byte ∷ next ∷ front) more other room =
     (closing_holds end (size + 1) (written + 1) (next ∷ front) more other (omega arith)))
 
 -- from how the text goes on to the trial
-by_closing_beyond : (size at : ℕ) (found : Closing) → size ≤ 1 → LooksBeyond size (by_closing at found)
-by_closing_beyond size at (Closed length written) room =
-    cond_both (nat_le written NAME_LIMIT) _ _ (LooksBeyond size) (λ _. omega arith) (λ _. omega arith)
-by_closing_beyond size at (Cut length) room = omega arith
-by_closing_beyond size at Unknown room = tt
+by_closing_beyond : (limit size at : ℕ) (found : Closing) → size ≤ 1 → LooksBeyond size (by_closing_of limit at found)
+by_closing_beyond limit size at (Closed length written) room =
+    cond_both (nat_le written limit) _ _ (LooksBeyond size) (λ _. omega arith) (λ _. omega arith)
+by_closing_beyond limit size at (Cut length) room = omega arith
+by_closing_beyond limit size at Unknown room = tt
 
-by_closing_holds : (end at : ℕ) (found other : Closing) → ClosingHolds end found other
-    → Holds (1 + end) (by_closing at found) (by_closing at other)
-by_closing_holds end at (Closed size written) other holds =
+by_closing_holds : (limit end at : ℕ) (found other : Closing) → ClosingHolds end found other
+    → Holds (1 + end) (by_closing_of limit at found) (by_closing_of limit at other)
+by_closing_holds limit end at (Closed size written) other holds =
     by_test _ (nat_le (size + 2) end)
     (λ seen. holds_same _ _ _ (let same = holds (grind (arith, nat_tests)) in rw same))
-    (λ unseen. holds_beyond _ _ _ (cond_both (nat_le written NAME_LIMIT) _ _ (LooksBeyond (1 + end)) (λ _. grind (arith, nat_tests)) (λ _. grind (arith, nat_tests))))
-by_closing_holds end at (Cut size) other holds = λ seen. let same = holds (omega arith) in rw same
-by_closing_holds end at Unknown other holds = tt
+    (λ unseen. holds_beyond _ _ _ (cond_both (nat_le written limit) _ _ (LooksBeyond (1 + end)) (λ _. grind (arith, nat_tests)) (λ _. grind (arith, nat_tests))))
+by_closing_holds limit end at (Cut size) other holds = λ seen. let same = holds (omega arith) in rw same
+by_closing_holds limit end at Unknown other holds = tt
 
-by_closing_seen : (most at : ℕ) (found : Closing) → IsWithin most found → IsSeen (1 + most) (by_closing at found)
-by_closing_seen most at (Closed size written) within =
-    cond_both (nat_le written NAME_LIMIT) _ _ (IsSeen (1 + most)) (λ _. omega arith) (λ _. omega arith)
-by_closing_seen most at (Cut size) within = omega arith
-by_closing_seen most at Unknown within = tt
+by_closing_seen : (limit most at : ℕ) (found : Closing) → IsWithin most found → IsSeen (1 + most) (by_closing_of limit at found)
+by_closing_seen limit most at (Closed size written) within =
+    cond_both (nat_le written limit) _ _ (IsSeen (1 + most)) (λ _. omega arith) (λ _. omega arith)
+by_closing_seen limit most at (Cut size) within = omega arith
+by_closing_seen limit most at Unknown within = tt
 
-by_closing_reaches : (most at : ℕ) (found : Closing) → IsWithin most found → ReachesIfAccept at (1 + most) (by_closing at found)
-by_closing_reaches most at (Closed size written) within =
-    cond_both (nat_le written NAME_LIMIT) _ _ (ReachesIfAccept at (1 + most)) (λ _. record { some = omega arith; begins = omega arith; seen = omega arith; within = omega arith }) (λ _. tt)
-by_closing_reaches most at (Cut size) within = tt
-by_closing_reaches most at Unknown within = tt
+by_closing_reaches : (limit most at : ℕ) (found : Closing) → IsWithin most found → ReachesIfAccept at (1 + most) (by_closing_of limit at found)
+by_closing_reaches limit most at (Closed size written) within =
+    cond_both (nat_le written limit) _ _ (ReachesIfAccept at (1 + most)) (λ _. record { some = omega arith; begins = omega arith; seen = omega arith; within = omega arith }) (λ _. tt)
+by_closing_reaches limit most at (Cut size) within = tt
+by_closing_reaches limit most at Unknown within = tt
 
 -- what the first bytes decide of a quoted text they decide however the text goes on
-quoted_decided : (front more other : List ℕ) (at : ℕ) → Holds (length front) (quoted (front ++ more) at) (quoted (front ++ other) at)
-quoted_decided [] [] other at = tt
-quoted_decided [] (byte ∷ more) other at =
-    holds_beyond _ _ _ (cond_both (byte == 34) _ _ (LooksBeyond 0) (λ _. by_closing_beyond 0 at (closing 0 0 more) (omega arith)) (λ _. omega arith))
-quoted_decided (byte ∷ front) more other at =
+quoted_decided : (limit : ℕ) (front more other : List ℕ) (at : ℕ) → Holds (length front) (quoted_of limit (front ++ more) at) (quoted_of limit (front ++ other) at)
+quoted_decided limit [] [] other at = tt
+quoted_decided limit [] (byte ∷ more) other at =
+    holds_beyond _ _ _ (cond_both (byte == 34) _ _ (LooksBeyond 0) (λ _. by_closing_beyond limit 0 at (closing 0 0 more) (omega arith)) (λ _. omega arith))
+quoted_decided limit (byte ∷ front) more other at =
     let end = closing_holds (length front) 0 0 front more other (omega arith) in
-    let decided = by_closing_holds (length front) at _ _ end in
+    let decided = by_closing_holds limit (length front) at _ _ end in
     let size : 1 + length front ≡ length (byte ∷ front) = omega arith in
     holds_both (length (byte ∷ front)) (byte == 34) _ (Refuse NotQuoted 1) _ (Refuse NotQuoted 1)
     (rw (← size) decided) (λ seen. refl)
 
-quoted_seen : (rest : List ℕ) (at : ℕ) → IsSeen (length rest) (quoted rest at)
-quoted_seen [] at = tt
-quoted_seen (byte ∷ rest) at =
+quoted_seen : (limit : ℕ) (rest : List ℕ) (at : ℕ) → IsSeen (length rest) (quoted_of limit rest at)
+quoted_seen limit [] at = tt
+quoted_seen limit (byte ∷ rest) at =
     let size : 1 + length rest ≡ length (byte ∷ rest) = omega arith in
-    let within = by_closing_seen (length rest) at _ (closing_within (length rest) 0 0 rest (omega arith)) in
+    let within = by_closing_seen limit (length rest) at _ (closing_within (length rest) 0 0 rest (omega arith)) in
     cond_both (byte == 34) _ _ (IsSeen (length (byte ∷ rest))) (λ _. rw (← size) within) (λ _. omega arith)
 
-pub quoted_is_local : IsLocal quoted
-quoted_is_local = is_local quoted quoted_decided quoted_seen
+quotes_are_local : (limit : ℕ) → IsLocal (quoted_of limit)
+quotes_are_local limit = is_local (quoted_of limit) (quoted_decided limit) (quoted_seen limit)
 
-quoted_reaches_if : (rest : List ℕ) (at : ℕ) → ReachesIfAccept at (length rest) (quoted rest at)
-quoted_reaches_if [] at = tt
-quoted_reaches_if (byte ∷ rest) at =
+pub quoted_is_local : IsLocal quoted
+quoted_is_local = quotes_are_local NAME_LIMIT
+
+pub long_quoted_is_local : IsLocal long_quoted
+long_quoted_is_local = quotes_are_local LINE_LIMIT
+
+quoted_reaches_if : (limit : ℕ) (rest : List ℕ) (at : ℕ) → ReachesIfAccept at (length rest) (quoted_of limit rest at)
+quoted_reaches_if limit [] at = tt
+quoted_reaches_if limit (byte ∷ rest) at =
     let size : 1 + length rest ≡ length (byte ∷ rest) = omega arith in
-    let reached = by_closing_reaches (length rest) at _ (closing_within (length rest) 0 0 rest (omega arith)) in
+    let reached = by_closing_reaches limit (length rest) at _ (closing_within (length rest) 0 0 rest (omega arith)) in
     cond_both (byte == 34) _ _ (ReachesIfAccept at (length (byte ∷ rest))) (λ _. rw (← size) reached) (λ _. tt)
 
 -- an accepted quoted text ends in the text, and the byte after it was looked at
+quotes_reach : (limit : ℕ) (rest : List ℕ) (at : ℕ) (value : Value) (looked end : ℕ)
+    → quoted_of limit rest at ≡ Accept value looked end → Reaches at (length rest) looked end
+quotes_reach limit rest at value looked end is =
+    reaches_accepted at (length rest) (quoted_of limit rest at) value looked end (quoted_reaches_if limit rest at) is
+
 pub quoted_reaches : (rest : List ℕ) (at : ℕ) (value : Value) (looked end : ℕ) → quoted rest at ≡ Accept value looked end
     → Reaches at (length rest) looked end
-quoted_reaches rest at value looked end is = reaches_accepted at (length rest) (quoted rest at) value looked end (quoted_reaches_if rest at) is
+quoted_reaches rest at value looked end is = quotes_reach NAME_LIMIT rest at value looked end is
+
+pub long_quoted_reaches : (rest : List ℕ) (at : ℕ) (value : Value) (looked end : ℕ)
+    → long_quoted rest at ≡ Accept value looked end → Reaches at (length rest) looked end
+long_quoted_reaches rest at value looked end is = quotes_reach LINE_LIMIT rest at value looked end is
 
 -- a closing quote, where there is one, is the last byte before this place
 abbrev ClosesAt : ℕ → Closing → Type 0
@@ -235,31 +250,39 @@ closing_ends size written (byte ∷ next ∷ more) is =
     by false false second twice plain is =
         subst (λ (place : ℕ). ClosesAt place (closing (size + 1) (written + 1) ((next ∷ more) ++ 32 ∷ []))) (omega arith) (plain is)
 
-closing_unknown : (at : ℕ) (found : Closing) → by_closing at found ≡ More → found ≡ Unknown
-closing_unknown at Unknown is = refl
-closing_unknown at (Cut size) is = cc
-closing_unknown at (Closed size written) is = by (nat_le written NAME_LIMIT) is
+closing_unknown : (limit at : ℕ) (found : Closing) → by_closing_of limit at found ≡ More → found ≡ Unknown
+closing_unknown limit at Unknown is = refl
+closing_unknown limit at (Cut size) is = cc
+closing_unknown limit at (Closed size written) is = by (nat_le written limit) is
   where
     by : (test : Bool) → (if test then Accept (Quoted (span (at + 1) size)) (size + 3) (at + (size + 2)) else Refuse FieldLong (size + 3)) ≡ More
         → Closed size written ≡ Unknown
     by true is = cc
     by false is = cc
 
-by_closing_ends : (at place : ℕ) (found : Closing) → ClosesAt place found → QuotedAt (at + (1 + place)) (by_closing at found)
-by_closing_ends at place (Closed size written) closes =
-    cond_each (QuotedAt (at + (1 + place))) (nat_le written NAME_LIMIT) _ _ (omega arith, tt) tt
-by_closing_ends at place (Cut size) closes = tt
-by_closing_ends at place Unknown closes = tt
+by_closing_ends : (limit at place : ℕ) (found : Closing) → ClosesAt place found → QuotedAt (at + (1 + place)) (by_closing_of limit at found)
+by_closing_ends limit at place (Closed size written) closes =
+    cond_each (QuotedAt (at + (1 + place))) (nat_le written limit) _ _ (omega arith, tt) tt
+by_closing_ends limit at place (Cut size) closes = tt
+by_closing_ends limit at place Unknown closes = tt
 
 -- a text that wants more and that a space closes ends with what is before the space
-pub quoted_ends : (rest : List ℕ) (at : ℕ) → quoted rest at ≡ More → QuotedAt (at + length rest) (quoted (rest ++ 32 ∷ []) at)
-quoted_ends [] at is = tt
-quoted_ends (byte ∷ inside) at is = by (byte == 34) is
+quotes_end : (limit : ℕ) (rest : List ℕ) (at : ℕ) → quoted_of limit rest at ≡ More
+    → QuotedAt (at + length rest) (quoted_of limit (rest ++ 32 ∷ []) at)
+quotes_end limit [] at is = tt
+quotes_end limit (byte ∷ inside) at is = by (byte == 34) is
   where
-    by : (test : Bool) → (if test then by_closing at (closing 0 0 inside) else Refuse NotQuoted 1) ≡ More
-        → QuotedAt (at + length (byte ∷ inside)) (if test then by_closing at (closing 0 0 (inside ++ 32 ∷ [])) else Refuse NotQuoted 1)
+    by : (test : Bool) → (if test then by_closing_of limit at (closing 0 0 inside) else Refuse NotQuoted 1) ≡ More
+        → QuotedAt (at + length (byte ∷ inside)) (if test then by_closing_of limit at (closing 0 0 (inside ++ 32 ∷ [])) else Refuse NotQuoted 1)
     by false is = tt
     by true is =
-        let closes = closing_ends 0 0 inside (closing_unknown at (closing 0 0 inside) is) in
-        subst (λ (place : ℕ). QuotedAt place (by_closing at (closing 0 0 (inside ++ 32 ∷ [])))) (omega arith)
-        (by_closing_ends at (0 + length inside) _ closes)
+        let closes = closing_ends 0 0 inside (closing_unknown limit at (closing 0 0 inside) is) in
+        subst (λ (place : ℕ). QuotedAt place (by_closing_of limit at (closing 0 0 (inside ++ 32 ∷ [])))) (omega arith)
+        (by_closing_ends limit at (0 + length inside) _ closes)
+
+pub quoted_ends : (rest : List ℕ) (at : ℕ) → quoted rest at ≡ More → QuotedAt (at + length rest) (quoted (rest ++ 32 ∷ []) at)
+quoted_ends rest at is = quotes_end NAME_LIMIT rest at is
+
+pub long_quoted_ends : (rest : List ℕ) (at : ℕ) → long_quoted rest at ≡ More
+    → QuotedAt (at + length rest) (long_quoted (rest ++ 32 ∷ []) at)
+long_quoted_ends rest at is = quotes_end LINE_LIMIT rest at is

@@ -1,5 +1,5 @@
 -- What a reason of an application keeps.
-use Rattle.std.proofs.Common.{◌≡◌, ℕ, ◌<◌, ◌≤◌, ◌&&◌, nat_le, nat_lt, Bool, true, false, refl, List, length, arith}
+use Rattle.std.proofs.Common.{◌≡◌, ℕ, ◌<◌, ◌≤◌, ◌&&◌, nat_le, nat_lt, true, false, refl, List, length, arith}
 use Rattle.std.specs.List.{list_all}
 use Rattle.std.specs.Str.{IsAscii}
 use Rattle.std.proofs.lemmas.Bool.{and_parts}
@@ -8,9 +8,10 @@ use Rattle.cm_lists.proofs.Ascii.{IsAscii_of_all}
 use Rattle.cm_text.specs.declared.name.TheConstants.{NAME_LIMIT}
 use Rattle.cm_fields.specs.Code.{code_number, code_text, is_own}
 use Rattle.cm_fields.specs.declared.code.Code.{Code}
-use Rattle.cm_fields.specs.declared.code.Code.TheVariants.{NotKeyword, Ambiguous, NotSwitch, NeedColon, BadNoise, BadNumber, NumberRange, NoField, FieldLong, NotQuoted, NoQuote, NotToken, BadDate, YearRange, SpecShape, NameLong, GenRange, WildHere, Device, NoLogical, NoDirectory, NoUser, NoFile, NotComma, NotConfirmed, Rejected, TooMany, NoMatch, GenFull, FileExists, NameNeeded, CopyRange, DirLimit, FileLimit, FileSize, StoreSize, LogicalLimit, QueueLimit, NoDefinition, TakeDepth, LineLimit, BadLine, NotInTake, NoLabel, BadControl, NoSubcommands, NoMessage, MailFull, Own}
+use Rattle.cm_fields.specs.declared.code.Code.TheVariants.{NotKeyword, Ambiguous, NotSwitch, NeedColon, BadNoise, BadNumber, NumberRange, NoField, FieldLong, NotQuoted, NoQuote, NotToken, BadDate, YearRange, SpecShape, NameLong, GenRange, WildHere, Device, NoLogical, NoDirectory, NoUser, NoFile, NotComma, NotConfirmed, Rejected, TooMany, OutOfRange, Repeated, NoMatch, GenFull, FileExists, NameNeeded, CopyRange, DirLimit, FileLimit, FileSize, StoreSize, LogicalLimit, QueueLimit, NoDefinition, TakeDepth, LineLimit, BadLine, NotInTake, NoLabel, BadControl, NoSubcommands, NoMessage, MailFull, Own}
 use Rattle.cm_fields.specs.Reason.{is_printing, is_reason, is_reason_text}
 use Rattle.cm_fields.specs.declared.reason.TheConstants.{OWN_NUMBER}
+use Rattle.cm_fields.proofs.Numerals.{range_reason_shown}
 
 pub reason_number : (number : ℕ) (text : List ℕ) → is_reason number text ≡ true → OWN_NUMBER ≤ number
 unfolding is_reason
@@ -32,7 +33,7 @@ text_short text is =
 printing_low : (byte : ℕ) → is_printing byte ≡ true → byte < 128
 printing_low byte is = grind (arith, nat_tests)
 
-text_ascii : (text : List ℕ) → is_reason_text text ≡ true → IsAscii text
+pub text_ascii : (text : List ℕ) → is_reason_text text ≡ true → IsAscii text
 unfolding is_reason_text
 text_ascii text is =
     IsAscii_of_all is_printing printing_low text
@@ -75,6 +76,8 @@ library_code NotComma library = (refl, refl)
 library_code NotConfirmed library = (refl, refl)
 library_code Rejected library = (refl, refl)
 library_code TooMany library = (refl, refl)
+library_code (OutOfRange numbers) library = (refl, range_reason_shown numbers)
+library_code Repeated library = (refl, refl)
 library_code NoMatch library = (refl, refl)
 library_code GenFull library = (refl, refl)
 library_code FileExists library = (refl, refl)

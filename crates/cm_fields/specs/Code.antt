@@ -1,7 +1,8 @@
 -- The refusals: their numbers in the log and their texts on the screen.
 use Rattle.std.specs.Prelude.{ℕ, Bool, true, false, List, codes}
 use Rattle.cm_fields.specs.declared.code.Code.{Code}
-use Rattle.cm_fields.specs.declared.code.Code.TheVariants.{NotKeyword, Ambiguous, NotSwitch, NeedColon, BadNoise, BadNumber, NumberRange, NoField, FieldLong, NotQuoted, NoQuote, NotToken, BadDate, YearRange, SpecShape, NameLong, GenRange, WildHere, Device, NoLogical, NoDirectory, NoUser, NoFile, NotComma, NotConfirmed, Rejected, TooMany, NoMatch, GenFull, FileExists, NameNeeded, CopyRange, DirLimit, FileLimit, FileSize, StoreSize, LogicalLimit, QueueLimit, NoDefinition, TakeDepth, LineLimit, BadLine, NotInTake, NoLabel, BadControl, NoSubcommands, NoMessage, MailFull, Own}
+use Rattle.cm_fields.specs.declared.code.Code.TheVariants.{NotKeyword, Ambiguous, NotSwitch, NeedColon, BadNoise, BadNumber, NumberRange, NoField, FieldLong, NotQuoted, NoQuote, NotToken, BadDate, YearRange, SpecShape, NameLong, GenRange, WildHere, Device, NoLogical, NoDirectory, NoUser, NoFile, NotComma, NotConfirmed, Rejected, TooMany, OutOfRange, Repeated, NoMatch, GenFull, FileExists, NameNeeded, CopyRange, DirLimit, FileLimit, FileSize, StoreSize, LogicalLimit, QueueLimit, NoDefinition, TakeDepth, LineLimit, BadLine, NotInTake, NoLabel, BadControl, NoSubcommands, NoMessage, MailFull, Own}
+use Rattle.cm_fields.specs.Numbers.{range_reason}
 
 unfoldable pub code_number : Code → ℕ
 code_number NotKeyword = 1
@@ -31,6 +32,8 @@ code_number NotComma = 24
 code_number NotConfirmed = 25
 code_number Rejected = 26
 code_number TooMany = 27
+code_number (OutOfRange numbers) = 28
+code_number Repeated = 29
 code_number NoMatch = 30
 code_number GenFull = 31
 code_number FileExists = 32
@@ -82,6 +85,8 @@ code_text NotComma = codes "Comma expected"
 code_text NotConfirmed = codes "Not confirmed"
 code_text Rejected = codes "Value not accepted"
 code_text TooMany = codes "Too many fields"
+code_text (OutOfRange numbers) = range_reason numbers
+code_text Repeated = codes "Already given"
 code_text NoMatch = codes "No files match"
 code_text GenFull = codes "No higher generation"
 code_text FileExists = codes "File already exists"

@@ -3,6 +3,8 @@ pub mod Code
 pub mod Finish
 pub mod Local
 pub mod Mark
+pub mod Numbers
+pub mod Numeral
 pub mod Phrase
 pub mod Quoted
 pub mod Reason

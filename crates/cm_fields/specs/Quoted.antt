@@ -1,7 +1,7 @@
 -- A quoted text (.CMQST): from a quote to a quote that no quote follows; a quote inside stands twice.
 use Rattle.std.specs.Prelude.{ℕ, Bool, ◌+◌, ◌==◌, ◌&&◌, ◌||◌, ◌≤◌, nat_le, if◌then◌else◌, List, [], ◌∷◌}
 use Rattle.cm_text.specs.declared.name.TheConstants.{NAME_LIMIT}
-use Rattle.cm_text.specs.declared.text.TheConstants.{JOIN}
+use Rattle.cm_text.specs.declared.text.TheConstants.{JOIN, LINE_LIMIT}
 use Rattle.cm_fields.specs.declared.code.Code.TheVariants.{NotQuoted, NoQuote, FieldLong}
 use Rattle.cm_fields.specs.declared.quotes.Closing.{Closing}
 use Rattle.cm_fields.specs.declared.quotes.Closing.TheVariants.{Closed, Cut, Unknown}
@@ -31,19 +31,30 @@ IsWithin most (Closed size written) = size + 2 ≤ most
 IsWithin most (Cut size) = size + 1 ≤ most
 IsWithin most Unknown = Unit {0}
 
--- the byte after the closing quote decides
-abbrev pub by_closing : ℕ → Closing → Try
-by_closing at (Closed size written) =
-    if nat_le written NAME_LIMIT
+-- the byte after the closing quote decides, of a text that writes at most so many bytes
+abbrev pub by_closing_of : ℕ → ℕ → Closing → Try
+by_closing_of limit at (Closed size written) =
+    if nat_le written limit
     then Accept (Quoted (span (at + 1) size)) (size + 3) (at + (size + 2))
     else Refuse FieldLong (size + 3)
-by_closing at (Cut size) = Refuse NoQuote (size + 2)
-by_closing at Unknown = More
+by_closing_of limit at (Cut size) = Refuse NoQuote (size + 2)
+by_closing_of limit at Unknown = More
+
+abbrev pub by_closing : ℕ → Closing → Try
+by_closing at found = by_closing_of NAME_LIMIT at found
+
+abbrev pub quoted_of : ℕ → List ℕ → ℕ → Try
+quoted_of limit [] at = More
+quoted_of limit (byte ∷ rest) at =
+    if byte == 34 then by_closing_of limit at (closing 0 0 rest) else Refuse NotQuoted 1
 
 -- [quoted-text]
 abbrev pub quoted : List ℕ → ℕ → Try
-quoted [] at = More
-quoted (byte ∷ rest) at = if byte == 34 then by_closing at (closing 0 0 rest) else Refuse NotQuoted 1
+quoted rest at = quoted_of NAME_LIMIT rest at
+
+-- one as long as the line
+abbrev pub long_quoted : List ℕ → ℕ → Try
+long_quoted rest at = quoted_of LINE_LIMIT rest at
 
 -- what is said by what is between the outer quotes: a quote that stands twice is one
 abbrev pub unquoted : List ℕ → List ℕ

@@ -3,11 +3,11 @@ ghost use Rattle.std.specs.Prelude.{◌≡◌, nat_le, true};
 ghost use Rattle.cm_fields.specs.Code.{code_number, code_text, is_own};
 ghost use Rattle.cm_fields.specs.Reason.{is_reason_text};
 
-use crate::{OWN_NUMBER, Reason};
+use crate::{OWN_NUMBER, Outside, Reason};
 
 /// Why a field, a line or a command is refused.
 ///
-/// Those up to TooMany are the library's: of its field functions, of its parser, and Rejected of a hook that gives no
+/// Those up to Repeated are the library's: of its field functions, of its parser, and Rejected of a hook that gives no
 /// reason. Those from NoMatch on are of the programs of this repository, the EXEC and mail, and of their store. A
 /// program outside has its reasons as `Own`, by numbers and texts that it chooses.
 #[derive(Clone, Copy, Debug, PartialEq, Eq)]
@@ -66,6 +66,10 @@ pub enum Code {
     Rejected,
     /// The line has more than 64 fields.
     TooMany,
+    /// The number is none of those that may be here, whose range the text tells.
+    OutOfRange(Outside),
+    /// The line has this keyword or switch already, and may have it once.
+    Repeated,
     /// A listing selects no file.
     NoMatch,
     /// The highest generation is taken.
@@ -148,6 +152,8 @@ impl Code {
             Code::NotConfirmed => "Not confirmed",
             Code::Rejected => "Value not accepted",
             Code::TooMany => "Too many fields",
+            Code::OutOfRange(outside) => outside.text(),
+            Code::Repeated => "Already given",
             Code::NoMatch => "No files match",
             Code::GenFull => "No higher generation",
             Code::FileExists => "File already exists",
@@ -208,6 +214,8 @@ impl Code {
             Code::NotConfirmed => 25,
             Code::Rejected => 26,
             Code::TooMany => 27,
+            Code::OutOfRange(_) => 28,
+            Code::Repeated => 29,
             Code::NoMatch => 30,
             Code::GenFull => 31,
             Code::FileExists => 32,

@@ -4,8 +4,12 @@
 
 mod code;
 mod digits;
+mod integer;
 pub mod laws;
+mod long_quotes;
 mod mark;
+mod numbers;
+mod outside;
 mod phrase;
 mod quotes;
 mod reason;
@@ -17,7 +21,11 @@ mod value;
 
 pub use code::Code;
 pub use digits::{NUMBER_LIMIT, are_digits, value_of};
+pub use integer::numeral;
+pub use long_quotes::{long_quoted, unquote};
 pub use mark::{comma, confirm};
+pub use numbers::{NUMBER_TEXT_LIMIT, Numbers, Radix};
+pub use outside::Outside;
 pub use phrase::{noise, token};
 pub use quotes::{quoted, unquoted};
 pub use reason::{OWN_NUMBER, Reason};

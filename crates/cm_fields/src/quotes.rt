@@ -1,14 +1,14 @@
 // Quoted texts.
 ghost use Rattle.std.specs.Prelude.{◌≡◌, ◌+◌, ◌≤◌, ◌∷◌, ◌++◌, drop, length, take};
 ghost use Rattle.std.specs.Str.{IsAscii};
-ghost use Rattle.cm_fields.specs.Quoted.{IsWithin, by_closing, closing, quoted, unquoted};
+ghost use Rattle.cm_fields.specs.Quoted.{IsWithin, by_closing_of, closing, quoted, unquoted};
 
 use crate::trial::{said, span_of};
 use crate::{Code, Try, Value};
 use cm_text::{JOIN, NAME_LIMIT, Name, TEXT_LIMIT};
 
 // How the text after an opening quote goes on.
-enum Closing {
+pub(crate) enum Closing {
     // The closing quote is after so many bytes, which write so many.
     Closed { size: usize, written: usize },
     // The line, or a row of it, ends after so many bytes.
@@ -19,7 +19,7 @@ enum Closing {
 
 // How the text after an opening quote goes on, after so many bytes of it, which write so many.
 #[tactic(auto, using(crate::proofs::QuotedTexts::plain_passed, crate::proofs::QuotedTexts::quote_passed))]
-fn closing_from(size: usize, written: usize, inside: &[u8]) -> Closing
+pub(crate) fn closing_from(size: usize, written: usize, inside: &[u8]) -> Closing
     requires size { size + length inside.now ≤ TEXT_LIMIT }
     requires written { written ≤ size }
     ensures value { result ≡ closing size written inside.now }
@@ -35,15 +35,15 @@ fn closing_from(size: usize, written: usize, inside: &[u8]) -> Closing
     }
 }
 
-// What a text says that begins with a quote, by how it goes on.
-fn by_closing(at: usize, found: Closing) -> Try
+// What a text says that begins with a quote and writes at most so many bytes, by how it goes on.
+pub(crate) fn by_closing_of(limit: usize, at: usize, found: Closing) -> Try
     requires within { IsWithin TEXT_LIMIT found }
     requires place { at ≤ TEXT_LIMIT }
-    ensures { result ≡ by_closing at found }
+    ensures { result ≡ by_closing_of limit at found }
 {
     match found {
         Closing::Closed { size, written } => {
-            let decision = if written <= NAME_LIMIT {
+            let decision = if written <= limit {
                 Ok(Value::Quoted(span_of(at + 1, size)))
             } else {
                 Err(Code::FieldLong)
@@ -66,7 +66,7 @@ pub fn quoted(text: &[u8], at: usize) -> Try
 {
     match &text[at..] {
         [] => Try::More,
-        [b'"', inside @ ..] => by_closing(at, closing_from(0, 0, inside)),
+        [b'"', inside @ ..] => by_closing_of(NAME_LIMIT, at, closing_from(0, 0, inside)),
         _ => said(at, 0, 1, Err(Code::NotQuoted)),
     }
 }
@@ -100,7 +100,7 @@ fn push_unquoted(name: &mut Name, text: &[u8])
 
 // What is left of a quoted text after a byte, where this goes on: a quote that stands twice is passed whole.
 #[tactic(auto, using(cm_lists::proofs::Ascii::IsAscii_rest, crate::proofs::QuotedNames::plain_passed, crate::proofs::QuotedNames::quote_passed, crate::proofs::QuotedNames::lone_quote_passed, crate::proofs::QuotedNames::last_passed))]
-fn after_byte(byte: u8, more: &[u8]) -> &[u8]
+pub(crate) fn after_byte(byte: u8, more: &[u8]) -> &[u8]
     requires { IsAscii more.now }
     ensures said { unquoted (byte ∷ more.now) ≡ byte ∷ unquoted result.now }
     ensures ascii { IsAscii result.now }

@@ -75,7 +75,7 @@ fn is_reason(number: u8, text: &[u8]) -> bool
 
 // The text of ASCII bytes.
 #[tactic(auto, using(cm_lists::proofs::Ascii::text_of_ascii))]
-fn ascii(bytes: &[u8]) -> &str
+pub(crate) fn ascii(bytes: &[u8]) -> &str
     requires { IsAscii bytes.now }
     ensures { result.now ≡ bytes.now }
 {

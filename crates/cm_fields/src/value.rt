@@ -70,6 +70,8 @@ pub enum Value {
     Noise(bool),
     /// A decimal number (.CMNUM), at most 34,359,738,367.
     Number(u64),
+    /// One of some numbers in a radix (.CMNUM).
+    Integer(i64),
     /// A word, or a run of the bytes of a set (.CMFLD).
     Word(Span),
     /// A quoted text (.CMQST), without its outer quotes; a quote inside stands twice.

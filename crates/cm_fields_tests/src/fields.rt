@@ -3,8 +3,8 @@ use crate::cases::{is_wanted, number, part};
 use cm_dates::date;
 use cm_fields::laws::{skip_passes_blanks_and_comments, skip_stays, trials_are_local};
 use cm_fields::{
-    Code, Try, comma, confirm, noise, number as number_field, quoted, run_field, skip, text_field,
-    token, unquoted, word,
+    Code, Numbers, Try, comma, confirm, long_quoted, noise, number as number_field, numeral,
+    quoted, run_field, skip, text_field, token, unquoted, word,
 };
 use cm_text::ByteSet;
 use std::alloc::Global;
@@ -15,11 +15,13 @@ use std::test::Fail;
 #[derive(Clone, Copy)]
 pub(crate) enum Trial {
     Number,
+    Numeral(Numbers),
     Word,
     Address,
     Noise(&'static str),
     Token(&'static str),
     Quoted,
+    LongQuoted,
     Text,
     Comma,
     Confirm,
@@ -37,11 +39,13 @@ impl Trial {
     {
         match self {
             Trial::Number => number_field(text, at),
+            Trial::Numeral(numbers) => numeral(numbers, text, at),
             Trial::Word => word(text, at),
             Trial::Address => run_field(address(), text, at),
             Trial::Noise(phrase) => noise(phrase, text, at),
             Trial::Token(phrase) => token(phrase, text, at),
             Trial::Quoted => quoted(text, at),
+            Trial::LongQuoted => long_quoted(text, at),
             Trial::Text => text_field(text, at),
             Trial::Comma => comma(text, at),
             Trial::Confirm => confirm(text, at),
@@ -73,8 +77,8 @@ pub(crate) fn tries(rt: &impl Abort, alloc: Global, trial: Trial, cases: &str) -
     Ok(())
 }
 
-// The numbers leave out 28, 29 and 42.
-const CODES: [Code; 48] = [
+// The numbers leave out 28, which `numerals` has, and 42.
+const CODES: [Code; 49] = [
     Code::NotKeyword,
     Code::Ambiguous,
     Code::NotSwitch,
@@ -102,6 +106,7 @@ const CODES: [Code; 48] = [
     Code::NotConfirmed,
     Code::Rejected,
     Code::TooMany,
+    Code::Repeated,
     Code::NoMatch,
     Code::GenFull,
     Code::FileExists,
@@ -154,6 +159,7 @@ NotComma|24|Comma expected
 NotConfirmed|25|Not confirmed
 Rejected|26|Value not accepted
 TooMany|27|Too many fields
+Repeated|29|Already given
 NoMatch|30|No files match
 GenFull|31|No higher generation
 FileExists|32|File already exists

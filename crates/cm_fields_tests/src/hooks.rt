@@ -4,7 +4,7 @@ ghost use Rattle.std.specs.Prelude.{◌≡◌, codes};
 use crate::cases::{is_wanted, number, part};
 use cm_fields::Reason;
 use cm_hooks::{Answer, NoRules, Rules, Tail, completion_among, hook_field, verdict_among};
-use cm_text::Name;
+use cm_text::{Name, is_name};
 use std::alloc::Global;
 use std::convert::AsStr;
 use std::process::Abort;
@@ -16,16 +16,31 @@ struct Sample;
 
 impl Rules for Sample {
     ghost use Rattle.std.specs.Prelude.{◌+◌, ◌==◌, [], ◌∷◌, codes, if◌then◌else◌, length};
+    ghost use Rattle.cm_hooks.specs.FieldBytes.{name_bytes};
     ghost use Rattle.cm_hooks.specs.declared.answer.Answer.TheVariants.{Yes, No, NoBecause};
     ghost use Rattle.cm_hooks.specs.declared.answer.Tail.TheVariants as tails;
 
     ghost meanings = { λ it. record {
+      bytes = λ id. name_bytes;
+      names = λ id. [];
       verdict = λ id atom. if length atom == 3 then No
           else if length atom == 5 then NoBecause (record { number = 200; text = codes "Five bytes" })
           else Yes (length atom + id);
       completion = λ id atom. tails.Part (88 ∷ []);
       help = λ id. 88 ∷ [];
     } };
+
+    fn has_byte(&self, _id: u8, byte: u8) -> bool {
+        is_name(byte)
+    }
+
+    fn names(&self, _id: u8) -> usize {
+        0
+    }
+
+    fn name(&self, _id: u8, _number: usize) -> Option<Name> {
+        None
+    }
 
     fn verdict(&self, id: u8, atom: &[u8]) -> Answer {
         match atom.len() {
@@ -119,14 +134,29 @@ struct Lamps {
 impl Rules for Lamps {
     ghost use Rattle.std.specs.Prelude.{[], map};
     ghost use Rattle.cm_hooks.specs.Among.{verdict_among};
+    ghost use Rattle.cm_hooks.specs.FieldBytes.{name_bytes};
     ghost use Rattle.cm_hooks.specs.declared.answer.Tail.TheVariants as tails;
     ghost use Rattle.cm_fields_tests.specs.declared.hooks.Lamp.{Lamp};
 
     ghost meanings = { λ it. record {
+      bytes = λ id. name_bytes;
+      names = λ id. [];
       verdict = λ id atom. verdict_among (map (λ (lamp : Lamp). lamp.name) it.lamps.items) atom;
       completion = λ id atom. tails.None;
       help = λ id. [];
     } };
+
+    fn has_byte(&self, _id: u8, byte: u8) -> bool {
+        is_name(byte)
+    }
+
+    fn names(&self, _id: u8) -> usize {
+        0
+    }
+
+    fn name(&self, _id: u8, _number: usize) -> Option<Name> {
+        None
+    }
 
     fn verdict(&self, _id: u8, atom: &[u8]) -> Answer {
         verdict_among(self.lamps.as_slice(), atom)

@@ -15,9 +15,15 @@ mod hooks;
 #[cfg(test)]
 mod lines;
 #[cfg(test)]
+mod long_quotes;
+#[cfg(test)]
 mod names;
 #[cfg(test)]
+mod numerals;
+#[cfg(test)]
 mod outside;
+#[cfg(test)]
+mod ports;
 #[cfg(test)]
 mod reasons;
 #[cfg(test)]

@@ -17,10 +17,13 @@ struct Sample;
 impl RuleSet for Sample {
     ghost use Rattle.std.specs.Prelude.{◌+◌, ◌==◌, [], ◌∷◌, codes, if◌then◌else◌, length, refl};
     ghost use Rattle.cm_text.specs.Bytes.{is_name, is_word};
+    ghost use Rattle.cm_hooks.specs.FieldBytes.{name_bytes};
     ghost use Rattle.cm_hooks.specs.declared.answer.Answer.TheVariants.{Yes, No, NoBecause};
     ghost use Rattle.cm_hooks.specs.declared.answer.Tail.TheVariants as tails;
 
     ghost meant = { record {
+      bytes = λ id. name_bytes;
+      names = λ id. [];
       verdict = λ id atom. if length atom == 3 then No
           else if length atom == 5 then NoBecause (record { number = 200; text = codes "Five bytes" })
           else Yes (length atom + id);

@@ -68,7 +68,13 @@ ABLE BAKER|None
 ABLE ABLE|Some(Repeat(1))
 BAKER ABLE|Some(Order(1))
 :|Some(BadText(0))
-ABLE baker|Some(BadText(1))
+ABLE bak_er|Some(BadText(1))
+able Baker CHARLIE|None
+A- a1 AB|None
+able ABLE|Some(Repeat(1))
+Able Baker bakeR Able|Some(Repeat(2))
+Baker able|Some(Order(1))
+a:1 Able|None
 ABLE ABLE b|Some(Repeat(1))
 A:1|Some(BadTarget(0))
 A:1 ABLE:NoRecognise|Some(BadTarget(0))
@@ -157,6 +163,31 @@ look|I|Abbrev(0)";
 fn looks_up_unrecognised_entries(rt: HostRuntime) -> Result<(), Fail> {
     let keywords = "INFORMATION KJOB:Invisible L:NoRecognise LO:NoRecognise LOGOUT";
     answer_all(&rt, rt.alloc(), keywords, UNRECOGNISED)
+}
+
+// The entries of a table with small letters.
+const OF_LETTERS: &str = "\
+look|INT|Ambiguous
+look|Intern|Abbrev(1)
+look|ROUTER|Exact(2)
+look|interface|Exact(0)
+look|ShO|Ambiguous
+look|SHOW|Exact(4)
+whole|INTERFACE|true
+common|I|nter
+common|INT|er
+common|s|HO
+common|sHo|
+common|SHOR|T
+common|r|outer
+0|INT|Some(0)
+1|int|Some(1)
+2|int|None";
+
+#[test]
+fn looks_up_entries_in_small_letters(rt: HostRuntime) -> Result<(), Fail> {
+    let keywords = "interface Internet Router SHORT show";
+    answer_all(&rt, rt.alloc(), keywords, OF_LETTERS)
 }
 
 #[test]
