@@ -8,6 +8,7 @@ use Rattle.cm_hooks.specs.declared.answer.Answer.{Answer}
 use Rattle.cm_hooks.specs.declared.answer.Answer.TheVariants.{Yes, No}
 use Rattle.cm_hooks.specs.declared.answer.Tail.{Tail}
 use Rattle.cm_hooks.specs.declared.answer.Tail.TheVariants as tails
+use Rattle.cm_hooks.specs.FieldBytes.{name_bytes}
 use Rattle.cm_hooks.specs.Meanings.{Meanings}
 
 -- name bytes alone, and at most as many as a name has
@@ -68,6 +69,8 @@ joined (tails.Whole text) rest = tails.Part (shared text rest)
 -- each hook reads one of the names, and has this help
 abbrev pub choice_meanings : List (List ℕ) → List ℕ → Meanings
 choice_meanings names help = record {
+  bytes = λ id. name_bytes;
+  names = λ id. names;
   verdict = λ id atom. verdict_among names atom;
   completion = λ id atom. completion_among names atom;
   help = λ id. help;

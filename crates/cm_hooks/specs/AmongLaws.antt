@@ -1,5 +1,5 @@
 -- What completes an atom to one of several names is taken.
-use Rattle.std.proofs.Common.{◌≡◌, ℕ, ◌+◌, ◌<◌, ◌≤◌, Bool, true, false, ap, cond, ◌&&◌, ◌||◌, ◌==◌, ◌∙◌, sym, nat_le, List, [], ◌∷◌, ◌++◌, length, take, drop, zero, suc, refl, arith, filter, subst, length-append}
+use Rattle.std.proofs.Common.{◌≡◌, ℕ, ◌+◌, ◌<◌, ◌≤◌, Bool, true, false, ap, cond, ◌&&◌, ◌||◌, ◌==◌, ◌∙◌, sym, nat_le, List, [], ◌∷◌, ◌++◌, length, take, drop, zero, suc, None, Some, slice_get, get_or, map, refl, arith, filter, subst, length-append}
 use Rattle.std.specs.Char.{to_ascii_lowercase}
 use Rattle.std.specs.List.{enumerate_from, fold, list_all}
 use Rattle.std.proofs.lemmas.Bool.Decides.{nat_tests}
@@ -54,6 +54,30 @@ numbered_names number (name ∷ more) all =
     let text = both (list_all is_name name) (nat_le (length name) NAME_LIMIT) here.0 in
     let short : length name ≤ NAME_LIMIT = grind (arith, nat_tests, text.1) in
     (text.0, short, numbered_names (number + 1) more here.1)
+
+-- the text of the element with a number
+pub text_at : {X : Type 0} (text : X → List ℕ) (xs : List X) (number : ℕ) (other : X) → number < length xs
+    → slice_get (map text xs) number ≡ Some (text (get_or xs number other))
+text_at text [] number other within = absurd (omega (arith, within))
+text_at text (x ∷ xs) zero other within = refl
+text_at text (x ∷ xs) (suc number) other within = text_at text xs number other (omega (arith, within))
+
+-- there is none from their number on
+pub text_past : {X : Type 0} (text : X → List ℕ) (xs : List X) (number : ℕ) → length xs ≤ number
+    → slice_get (map text xs) number ≡ None
+text_past text [] number past = refl
+text_past text (x ∷ xs) zero past = absurd (omega (arith, past))
+text_past text (x ∷ xs) (suc number) past = text_past text xs number (omega (arith, past))
+
+-- one of them is short
+pub name_short : (names : List (List ℕ)) (number : ℕ) (name : List ℕ) → are_names names ≡ true
+    → slice_get names number ≡ Some name → length name ≤ NAME_LIMIT
+name_short [] number name all is = cc
+name_short (first ∷ more) zero name all is =
+    let same : first ≡ name = cc in
+    subst (λ (name : List ℕ). length name ≤ NAME_LIMIT) same (numbered_names 0 (first ∷ more) all).1
+name_short (first ∷ more) (suc number) name all is =
+    name_short more number name (both (is_name_text first) (are_names more) all).1 is
 
 -- so are those that pass a test
 passing_names : (test : List ℕ → Bool) (names : List (ℕ × List ℕ)) → AreNames names → AreNames (passing test names)
@@ -219,7 +243,7 @@ one_taken names atom one some is =
 -- by the names that an atom may stand for
 found_completes : (names : List (List ℕ)) (atom : List ℕ) (found : List (ℕ × List ℕ)) → 0 < length atom
     → AreNames found → under names atom ≡ found
-    → Completes (verdict_among names) atom (goes_on (rests (length atom) found))
+    → Completes is_name (verdict_among names) atom (goes_on (rests (length atom) found))
 found_completes names atom [] some all is = tt
 found_completes names atom (one ∷ []) some (bytes, short, all) is =
     let whole = one_whole names atom one is in
@@ -238,11 +262,11 @@ found_completes names atom (one ∷ other ∷ more) some all is =
 -- what completes an atom to one of several names is name bytes, and where it completes it whole, the two together
 -- are taken
 pub among_completes : (names : List (List ℕ)) → are_names names ≡ true → (atom : List ℕ)
-    → Completes (verdict_among names) atom (completion_among names atom)
+    → Completes is_name (verdict_among names) atom (completion_among names atom)
 unfolding completion_among
 among_completes names all atom = by (length atom == 0) refl
   where
-    by : (b : Bool) → (length atom == 0) ≡ b → Completes (verdict_among names) atom
+    by : (b : Bool) → (length atom == 0) ≡ b → Completes is_name (verdict_among names) atom
         (cond b tails.None (goes_on (rests (length atom) (under names atom))))
     by true empty = tt
     by false full =

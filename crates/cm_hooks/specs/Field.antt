@@ -1,6 +1,5 @@
 -- A field that a hook judges.
 use Rattle.std.specs.Prelude.{ℕ, ◌==◌, if◌then◌else◌, List, length, Result, Ok, Err}
-use Rattle.cm_text.specs.Bytes.{is_name}
 use Rattle.cm_fields.specs.declared.code.Code.{Code}
 use Rattle.cm_fields.specs.declared.code.Code.TheVariants.{NoField, Rejected, Own}
 use Rattle.cm_fields.specs.declared.trial.Try.{Try}
@@ -9,6 +8,7 @@ use Rattle.cm_fields.specs.declared.value.Value.TheVariants as values
 use Rattle.cm_fields.specs.Try.{by_run}
 use Rattle.cm_hooks.specs.declared.answer.Answer.{Answer}
 use Rattle.cm_hooks.specs.declared.answer.Answer.TheVariants.{Yes, No, NoBecause}
+use Rattle.cm_hooks.specs.Meanings.{Meanings}
 
 -- what the answer of the hook with this id makes of the field
 abbrev pub judged : ℕ → Answer → Result Value Code
@@ -20,6 +20,6 @@ judged id (NoBecause reason) = Err (Own reason)
 unfoldable pub hook_of : (ℕ → List ℕ → Answer) → ℕ → List ℕ → Result Value Code
 hook_of verdict id run = if length run == 0 then Err NoField else judged id (verdict id run)
 
--- [own-field] a run of name bytes
-abbrev pub hook : (ℕ → List ℕ → Answer) → ℕ → List ℕ → ℕ → Try
-hook verdict id rest at = by_run is_name (hook_of verdict id) rest at
+-- [own-field] a run of the bytes of its fields
+abbrev pub hook : Meanings → ℕ → List ℕ → ℕ → Try
+hook meanings id rest at = by_run (meanings.bytes id).test (hook_of meanings.verdict id) rest at

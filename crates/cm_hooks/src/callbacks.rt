@@ -7,13 +7,13 @@ use cm_text::Name;
 pub trait Callbacks: Drop {
     ghost use Rattle.std.specs.Prelude.{ℕ, ◌≡◌, ◌<◌, ◌≤◌, length};
     ghost use Rattle.cm_text.specs.declared.text.TheConstants.{LINE_LIMIT};
-    ghost use Rattle.cm_hooks.specs.Meanings.{IsLawful, Meanings};
+    ghost use Rattle.cm_hooks.specs.Meanings.{IsLawful, Meanings, on_names};
 
     /// What the hooks mean.
     ghost meant: { Meanings };
 
-    /// What completes an atom is taken.
-    ghost lawful: { IsLawful meant };
+    /// What completes an atom is name bytes, and taken.
+    ghost lawful: { IsLawful (on_names meant) };
 
     /// How many hooks are held.
     ghost count: { Self → ℕ };

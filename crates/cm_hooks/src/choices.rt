@@ -1,9 +1,12 @@
 // Fields that are each one of several names.
+ghost use Rattle.std.specs.Prelude.{◌≡◌, ◌<◌, Some, length, map, slice_get, true};
+ghost use Rattle.cm_hooks.specs.Among.{are_names};
+
 use crate::{Answer, Rules, Tail, completion_among, verdict_among};
-use cm_text::Name;
+use cm_text::{Name, is_name};
 
 /// The rules of a program whose own fields are each one of the same names: an atom may abbreviate one, letters have no
-/// case, and the value of the field is the number of its name, from 0. Each such type is `Rules`.
+/// case, the value of the field is the number of its name, from 0, and `?` lists the names. Each such type is `Rules`.
 pub trait Choices {
     ghost use Rattle.std.specs.Prelude.{◌≡◌, ℕ, List, map, true};
     ghost use Rattle.cm_hooks.specs.Among.{are_names};
@@ -31,12 +34,24 @@ impl<C: Choices> Rules for C {
 
     ghost meanings = { λ it. choice_meanings C.choices C.help_text };
 
+    fn has_byte(&self, _id: u8, byte: u8) -> bool {
+        is_name(byte)
+    }
+
+    fn names(&self, _id: u8) -> usize {
+        Choices::names(self).len()
+    }
+
+    fn name(&self, _id: u8, number: usize) -> Option<Name> {
+        name_at(Choices::names(self), number)
+    }
+
     fn verdict(&self, _id: u8, atom: &[u8]) -> Answer {
-        verdict_among(self.names(), atom)
+        verdict_among(Choices::names(self), atom)
     }
 
     fn completion(&self, _id: u8, atom: &[u8]) -> Tail {
-        completion_among(self.names(), atom)
+        completion_among(Choices::names(self), atom)
     }
 
     fn help(&self, _id: u8) -> Name {
@@ -44,4 +59,25 @@ impl<C: Choices> Rules for C {
     }
 
     fn are_lawful(&self) {}
+}
+
+// The name with this number.
+#[tactic(auto, using(crate::specs::AmongLaws::text_past))]
+fn name_at(names: &[&str], number: usize) -> Option<Name>
+    requires { are_names (map (λ name. name.now) names.now) ≡ true }
+    ensures { result ≡ slice_get (map (λ name. name.now) names.now) number }
+{
+    if number >= names.len() {
+        return None;
+    }
+    Some(name_of(names, number))
+}
+
+// The same, where it is there.
+fn name_of(names: &[&str], number: usize) -> Name
+    requires names { are_names (map (λ name. name.now) names.now) ≡ true }
+    requires number { number < length names.now }
+    ensures { slice_get (map (λ name. name.now) names.now) number ≡ Some result }
+{
+    Name::new(names[number])
 }

@@ -1,9 +1,9 @@
 // Rules that stored hooks answer.
 use crate::{Answer, Callbacks, Rules, Tail};
-use cm_text::Name;
+use cm_text::{Name, is_name};
 
-/// The rules that stored hooks answer. Under an id that is not held each atom is refused, none is completed, and the
-/// help is empty.
+/// The rules that stored hooks answer. Their fields are runs of name bytes, and `?` lists no names. Under an id that is
+/// not held each atom is refused, none is completed, and the help is empty.
 #[derive(Drop)]
 pub struct StoredRules<H: Callbacks> {
     hooks: H,
@@ -27,6 +27,18 @@ impl<H: Callbacks> Rules for StoredRules<H> {
     ghost use Rattle.cm_hooks.specs.Meanings.{held_meanings};
 
     ghost meanings = { λ it. held_meanings (H.count it.hooks) H.meant };
+
+    fn has_byte(&self, _id: u8, byte: u8) -> bool {
+        is_name(byte)
+    }
+
+    fn names(&self, _id: u8) -> usize {
+        0
+    }
+
+    fn name(&self, _id: u8, _number: usize) -> Option<Name> {
+        None
+    }
 
     fn verdict(&self, id: u8, atom: &[u8]) -> Answer {
         if id < self.hooks.len() {
