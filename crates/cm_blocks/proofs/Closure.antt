@@ -1,11 +1,11 @@
 -- The parse of a finished text is decided.
-use Rattle.std.proofs.Common.{◌≡◌, ℕ, zero, suc, ◌+◌, ◌<◌, ◌≤◌, Bool, true, false, not, ◌==◌, ◌&&◌, nat_le, List, [], ◌∷◌, length, drop, take, Option, Some, None, unwrap_or, slice_get, Result, Ok, Err, refl, ap, sym, subst, ◌∙◌, arith, length-drop}
+use Rattle.std.proofs.Common.{◌≡◌, ℕ, zero, suc, ◌+◌, ◌<◌, ◌≤◌, Bool, true, false, not, ◌==◌, ◌&&◌, nat_le, List, [], ◌∷◌, length, drop, take, Option, Some, None, unwrap_or, slice_get, Result, Ok, Err, refl, ap, sym, subst, ◌++◌, ◌∙◌, arith, length-drop}
 use Rattle.std.proofs.lemmas.Bool.{and_parts, cond_both, not-true}
 use Rattle.std.specs.List.{All, prefix_len}
 use Rattle.std.proofs.lemmas.Bool.Decides.{nat_tests}
 use Rattle.std.proofs.lemmas.List.{drop-append-le}
 use Rattle.cm_lists.proofs.Bools.{cond_each}
-use Rattle.cm_text.specs.Bytes.{is_name, is_shown, is_shown_byte, is_word}
+use Rattle.cm_text.specs.Bytes.{is_shown, is_shown_byte, is_word}
 use Rattle.cm_text.specs.ByteSets.{has_byte, is_empty}
 use Rattle.cm_text.specs.Text.{finished}
 use Rattle.cm_text.specs.declared.text.TheConstants.{JOIN}
@@ -17,28 +17,31 @@ use Rattle.cm_fields.specs.declared.trial.Try.{Try}
 use Rattle.cm_fields.specs.declared.trial.Try.TheVariants.{Accept, Refuse, More}
 use Rattle.cm_fields.specs.declared.value.FileKind.TheVariants.{In, Out, Any}
 use Rattle.cm_fields.specs.Finish.{Decides, DecidesFinished, has_no_end}
+use Rattle.cm_fields.specs.Numeral.{numeral_of}
 use Rattle.cm_fields.specs.Phrase.{same_letter}
 use Rattle.cm_fields.specs.Run.{may_be_field, number_of, run_of, word_of}
 use Rattle.cm_fields.specs.Text.{is_inside, text_of}
-use Rattle.cm_fields.proofs.LineEnds.{comma_decides, confirm_decides, mark_inside, noise_decides, not_all, quoted_decides, run_decides, run_finishes, token_decides}
+use Rattle.cm_fields.proofs.LineEnds.{comma_decides, confirm_decides, long_quoted_decides, mark_inside, noise_decides, not_all, quoted_decides, run_decides, run_finishes, token_decides}
 use Rattle.cm_fields.proofs.Skips.{skip_finds}
 use Rattle.cm_files.specs.declared.flags.Flags.{Flags}
 use Rattle.cm_files.proofs.Trials.{directory_decides, file_decides, user_decides}
 use Rattle.cm_hooks.specs.Field.{hook_of}
+use Rattle.cm_hooks.specs.FieldBytes.{not_graphic}
 use Rattle.cm_blocks.specs.declared.chain.Walk.{Walk}
 use Rattle.cm_blocks.specs.declared.chain.Walk.TheVariants.{Takes, Wants, Fails}
 use Rattle.cm_blocks.specs.declared.field.Chain.{Chain}
 use Rattle.cm_blocks.specs.declared.field.Chain.TheVariants as chain
 use Rattle.cm_blocks.specs.declared.field.TheConstants.{FIELD_LIMIT}
 use Rattle.cm_blocks.specs.declared.function.Function.{Function}
-use Rattle.cm_blocks.specs.declared.function.Function.TheVariants.{Key, Switch, Noise, Number, Word, Run, Quoted, Token, Date, User, Directory, InFile, OutFile, AnyFile, Text, Comma, Confirm, Hook}
+use Rattle.cm_blocks.specs.declared.function.Function.TheVariants.{Key, Switch, Noise, Number, Numeral, Word, Run, Quoted, LongQuoted, Token, Date, User, Directory, InFile, OutFile, AnyFile, Text, Comma, Confirm, Hook}
 use Rattle.cm_blocks.specs.declared.node.Block.{Block}
 use Rattle.cm_blocks.specs.declared.node.Node.{Node}
 use Rattle.cm_blocks.specs.Chain.{Counted, at_node, by_default, chain_at, default_place, default_rest, defaulted, is_confirm, is_line_end, on_default, on_text, or_later, past_skip, typed, walk}
 use Rattle.cm_blocks.specs.Fault.{grammar_fault, has_phrase, may_read}
 use Rattle.cm_blocks.specs.Grammar.{Graph}
 use Rattle.cm_blocks.specs.Keyword.{after_slash, entry_position, has_colon, key_value, named_switch, switch}
-use Rattle.cm_blocks.specs.Parse.{IsClosed, Parse, after_chain, ending_of, parse_from, parse_of}
+use Rattle.cm_blocks.specs.Once.{repeats, unless_repeated}
+use Rattle.cm_blocks.specs.Parse.{IsClosed, Parse, after_chain, answer_at, ending_of, parse_from, parse_of}
 use Rattle.cm_blocks.specs.Setting.{Setting}
 use Rattle.cm_blocks.specs.FieldView.{FieldView}
 use Rattle.cm_blocks.specs.Trial.{table_of, trial}
@@ -87,15 +90,17 @@ has_no_cr set may = not-true _ (and_parts _ (not (has_byte set JOIN)) (and_parts
 
 trial_decides : (s : Setting) (function : Function) (flags : Flags) → has_phrase function ≡ true
     → may_read function ≡ true → DecidesFinished (trial s function flags)
-unfolding trial is_word is_name
+unfolding trial is_word
 trial_decides s (Key table) flags phrase bytes =
     run_decides is_word (λ at run. key_value (table_of s.graph table) (entry_position (table_of s.graph table) run)) refl
 trial_decides s (Switch table) flags phrase bytes = switch_decides (table_of s.graph table)
 trial_decides s (Noise text) flags phrase bytes = noise_decides text
 trial_decides s Number flags phrase bytes = run_decides is_word (λ at. number_of) refl
+trial_decides s (Numeral numbers) flags phrase bytes = run_decides is_word (λ at. numeral_of numbers) refl
 trial_decides s Word flags phrase bytes = run_decides is_word word_of refl
 trial_decides s (Run set) flags phrase bytes = run_decides (has_byte set) run_of (has_no_cr set (and_parts (not (is_empty set)) _ bytes).1)
 trial_decides s Quoted flags phrase bytes = quoted_decides
+trial_decides s LongQuoted flags phrase bytes = long_quoted_decides
 trial_decides s (Token text) flags phrase bytes = token_decides text (shown_has_no_end text (and_parts _ (is_shown text) phrase).1)
 trial_decides s Date flags phrase bytes = run_decides is_word (λ at. date_of) refl
 trial_decides s User flags phrase bytes = user_decides s.catalogue
@@ -106,7 +111,8 @@ trial_decides s AnyFile flags phrase bytes = file_decides s.catalogue Any flags
 trial_decides s Text flags phrase bytes = run_decides is_inside text_of refl
 trial_decides s Comma flags phrase bytes = comma_decides
 trial_decides s Confirm flags phrase bytes = confirm_decides
-trial_decides s (Hook id) flags phrase bytes = run_decides is_name (λ at. hook_of s.meanings.verdict id) refl
+trial_decides s (Hook id) flags phrase bytes =
+    run_decides (s.meanings.bytes id).test (λ at. hook_of s.meanings.verdict id) (not_graphic (s.meanings.bytes id) 13 refl)
 
 -- a walk over a finished text wants no more
 abbrev WalkDecides : ℕ → ℕ → Walk → Type 0
@@ -197,15 +203,26 @@ ending_decides size (chain.Done place) decided = tt
 ending_decides size (chain.Fault fault) decided = tt
 ending_decides size (chain.Open place) decided = decided
 
-closed_from : (s : Setting) → grammar_fault s.graph ≡ None → (line : List ℕ) (room node at : ℕ) → at ≤ length line
-    → IsClosed (parse_from s (finished line) room node at).ending
-closed_from s none line zero node at within = ending_decides (length line) _ (chain_decides s node line at none within)
-closed_from s none line (suc room) node at within =
-    by (chain_at s node (finished line) at).chain (chain_decides s node line at none within)
-    (λ field near. closed_from s none line room field.next field.end near)
+unless_decides : (size : ℕ) (graph : Graph) (before : List FieldView) (answer : Chain) → ChainDecides size answer
+    → ChainDecides size (unless_repeated graph before answer)
+unless_decides size graph before (chain.Field field) decided =
+    cond_each (ChainDecides size) (repeats graph before field) _ _ tt decided
+unless_decides size graph before (chain.Done place) decided = tt
+unless_decides size graph before (chain.Fault fault) decided = tt
+unless_decides size graph before (chain.Open place) decided = decided
+
+closed_from : (s : Setting) → grammar_fault s.graph ≡ None → (line : List ℕ) (before : List FieldView) (room node at : ℕ)
+    → at ≤ length line → IsClosed (parse_from s (finished line) before room node at).ending
+closed_from s none line before zero node at within =
+    ending_decides (length line) _
+    (unless_decides (length line) s.graph before _ (chain_decides s node line at none within))
+closed_from s none line before (suc room) node at within =
+    by (answer_at s (finished line) before node at)
+    (unless_decides (length line) s.graph before _ (chain_decides s node line at none within))
+    (λ field near. closed_from s none line (before ++ field ∷ []) room field.next field.end near)
   where
     after : FieldView → Parse
-    after field = parse_from s (finished line) room field.next field.end
+    after field = parse_from s (finished line) (before ++ field ∷ []) room field.next field.end
 
     by : (answer : Chain) → ChainDecides (length line) answer
         → ((field : FieldView) → field.end ≤ length line → IsClosed (after field).ending) → IsClosed (after_chain after answer).ending
@@ -217,4 +234,4 @@ closed_from s none line (suc room) node at within =
 pub finished_closes : (s : Setting) → grammar_fault s.graph ≡ None → (node : ℕ) (line : List ℕ)
     → IsClosed (parse_of s node (finished line)).ending
 unfolding parse_of
-finished_closes s none node line = closed_from s none line FIELD_LIMIT node 0 (omega arith)
+finished_closes s none node line = closed_from s none line [] FIELD_LIMIT node 0 (omega arith)

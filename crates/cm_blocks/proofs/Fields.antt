@@ -14,7 +14,7 @@ use Rattle.cm_blocks.specs.declared.field.Chain.TheVariants as chain
 use Rattle.cm_blocks.specs.declared.function.Role.{Role}
 use Rattle.cm_blocks.specs.declared.node.Block.{Block}
 use Rattle.cm_blocks.specs.declared.node.Node.{Node}
-use Rattle.cm_blocks.specs.Chain.{answered, at_node, by_default, chain_at, default_place, default_rest, defaulted, is_confirm, is_line_end, on_default, on_text, past_skip, typed, walk}
+use Rattle.cm_blocks.specs.Chain.{answered, at_node, by_default, chain_at, default_place, default_rest, defaulted, is_confirm, is_line_end, later_code, on_default, on_text, past_skip, typed, walk}
 use Rattle.cm_blocks.specs.Parse.{Follow}
 use Rattle.cm_blocks.specs.Setting.{Setting}
 use Rattle.cm_blocks.specs.FieldView.{FieldView}
@@ -83,7 +83,7 @@ walk_found s rest at number looked code (block ∷ blocks) taken role next value
         }
     by (Refuse refusal bytes) t after =
         let first = walk_step s rest at number looked code block blocks (Refuse refusal bytes) t in
-        let it = after (max looked bytes) refusal (sym first ∙ is) in
+        let it = after (max looked bytes) (later_code code refusal) (sym first ∙ is) in
         let same = it.number_is in
         record {
           place = suc it.place;

@@ -16,7 +16,7 @@ use Rattle.cm_blocks.specs.declared.field.Chain.TheVariants as chain
 use Rattle.cm_blocks.specs.declared.function.Role.{Role}
 use Rattle.cm_blocks.specs.declared.node.Block.{Block}
 use Rattle.cm_blocks.specs.declared.node.Node.{Node}
-use Rattle.cm_blocks.specs.Chain.{ChainLeads, Leads, at_node, by_default, chain_at, code_of, is_confirm, is_line_end, on_default, on_text, or_later, past_skip, typed, walk}
+use Rattle.cm_blocks.specs.Chain.{ChainLeads, Leads, at_node, by_default, chain_at, code_of, is_confirm, is_line_end, later_code, on_default, on_text, or_later, past_skip, typed, walk}
 use Rattle.cm_blocks.specs.Fault.{grammar_fault}
 use Rattle.cm_blocks.specs.Setting.{Setting}
 use Rattle.cm_blocks.specs.FieldView.{FieldView}
@@ -57,7 +57,7 @@ walk_least s rest at number looked code (block ∷ blocks) =
         → TakesLeast looked (or_later s.graph number (max looked (looked_of (length rest) answer)) block answer
         (walk s rest at (number + 1) (max looked (looked_of (length rest) answer)) (code_of code answer) blocks))
     by (Accept value seen end) after = omega arith
-    by (Refuse refusal seen) after = takes_less looked (max looked seen) _ (omega arith) (after (max looked seen) refusal)
+    by (Refuse refusal seen) after = takes_less looked (max looked seen) _ (omega arith) (after (max looked seen) (later_code code refusal))
     by More after = tt
 
 -- the answer to a text whose first bytes decide it, on another text that begins with them
@@ -97,12 +97,12 @@ walk_keeps s front more other at number looked code (block ∷ blocks) taken_blo
         walk_step s (front ++ other) at number looked code block blocks (Accept found bytes place) same ∙ all
     by (Refuse refusal bytes) t after =
         let first = walk_step s (front ++ more) at number looked code block blocks (Refuse refusal bytes) t in
-        let rest : walk s (front ++ more) at (number + 1) (max looked bytes) refusal blocks
+        let rest : walk s (front ++ more) at (number + 1) (max looked bytes) (later_code code refusal) blocks
         ≡ Takes taken_block role next value seen end = sym first ∙ is in
-        let least = subst (TakesLeast (max looked bytes)) rest (walk_least s (front ++ more) at (number + 1) (max looked bytes) refusal blocks) in
+        let least = subst (TakesLeast (max looked bytes)) rest (walk_least s (front ++ more) at (number + 1) (max looked bytes) (later_code code refusal) blocks) in
         let same = same_refused (length front) _ (trial s block.function block.flags (front ++ other) at) refusal bytes local t (omega arith) in
         walk_step s (front ++ other) at number looked code block blocks (Refuse refusal bytes) same
-        ∙ after (max looked bytes) refusal rest
+        ∙ after (max looked bytes) (later_code code refusal) rest
     by More t after =
         let first = walk_step s (front ++ more) at number looked code block blocks More t in
         let never : Wants number ≡ Takes taken_block role next value seen end = sym first ∙ is in cc

@@ -4,7 +4,7 @@ use Rattle.std.specs.List.{prefix_len}
 use Rattle.std.specs.Option.{option_map_or}
 use Rattle.std.proofs.lemmas.Bool.Decides.{nat_tests}
 use Rattle.cm_lists.proofs.Bools.{cond_each}
-use Rattle.cm_text.specs.Bytes.{is_name, is_word}
+use Rattle.cm_text.specs.Bytes.{is_word}
 use Rattle.cm_text.specs.Case.{begins_with}
 use Rattle.cm_text.specs.declared.name.TheConstants.{NAME_LIMIT}
 use Rattle.cm_tables.specs.declared.entry.Entry.{Entry}
@@ -229,8 +229,9 @@ trial_says s functions.AnyFile flags rest at value looked end on is =
     let run = run_of is_file (file_of s.catalogue Any flags at) rest at value looked end is in
     ap is_files (file_says s.catalogue Any flags at _ value run.decided).value_is
 trial_says s (functions.Hook rule) flags rest at value looked end on is =
-    let run = run_of is_name (hook_of s.meanings.verdict rule) rest at value looked end is in
-    ap (is_ruled rule) (hook_says s.meanings.verdict rule (take (prefix_len is_name rest) rest) value run.decided).1 ∙ itself rule
+    let run = run_of (s.meanings.bytes rule).test (hook_of s.meanings.verdict rule) rest at value looked end is in
+    ap (is_ruled rule)
+    (hook_says s.meanings.verdict rule (take (prefix_len (s.meanings.bytes rule).test rest) rest) value run.decided).1 ∙ itself rule
 trial_says s function flags rest at value looked end on is = cc
 
 -- what a run of bytes means in a table

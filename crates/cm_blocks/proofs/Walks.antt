@@ -4,7 +4,7 @@ use Rattle.std.proofs.lemmas.Bool.{and_parts}
 use Rattle.std.specs.List.{All, list_all}
 use Rattle.std.proofs.lemmas.Bool.Decides.{nat_tests}
 use Rattle.cm_lists.proofs.Bools.{cond_each}
-use Rattle.cm_text.specs.Bytes.{is_name, is_word}
+use Rattle.cm_text.specs.Bytes.{is_word}
 use Rattle.cm_text.specs.ByteSets.{has_byte}
 use Rattle.cm_tables.specs.declared.entry.Entry.{Entry}
 use Rattle.cm_dates.specs.Date.{date_of}
@@ -15,13 +15,14 @@ use Rattle.cm_fields.specs.declared.trial.Try.TheVariants.{Accept, Refuse, More}
 use Rattle.cm_fields.specs.declared.value.FileKind.TheVariants.{In, Out, Any}
 use Rattle.cm_fields.specs.declared.value.Value.{Value}
 use Rattle.cm_fields.specs.declared.value.Value.TheVariants as values
+use Rattle.cm_fields.specs.Numeral.{numeral_of}
 use Rattle.cm_fields.specs.Run.{number_of, run_of, word_of}
 use Rattle.cm_fields.specs.Skip.{skip}
 use Rattle.cm_fields.specs.Text.{is_inside, text_of}
 use Rattle.cm_fields.proofs.Trials.{Reaches}
 use Rattle.cm_fields.proofs.Marks.{comma_reaches, confirm_reaches}
 use Rattle.cm_fields.proofs.Phrases.{noise_reaches, token_reaches}
-use Rattle.cm_fields.proofs.QuotedTexts.{quoted_reaches}
+use Rattle.cm_fields.proofs.QuotedTexts.{long_quoted_reaches, quoted_reaches}
 use Rattle.cm_fields.proofs.Runs.{run_reaches}
 use Rattle.cm_fields.proofs.Skips.{skip_within}
 use Rattle.cm_files.specs.Catalogue.{Catalogue}
@@ -33,7 +34,7 @@ use Rattle.cm_blocks.specs.declared.chain.Walk.{Walk}
 use Rattle.cm_blocks.specs.declared.chain.Walk.TheVariants.{Takes, Wants, Fails}
 use Rattle.cm_blocks.specs.declared.field.Chain.{Chain}
 use Rattle.cm_blocks.specs.declared.function.Function.{Function}
-use Rattle.cm_blocks.specs.declared.function.Function.TheVariants.{Key, Switch, Noise, Number, Word, Run, Quoted, Token, Date, User, Directory, InFile, OutFile, AnyFile, Text, Comma, Confirm, Hook}
+use Rattle.cm_blocks.specs.declared.function.Function.TheVariants.{Key, Switch, Noise, Number, Numeral, Word, Run, Quoted, LongQuoted, Token, Date, User, Directory, InFile, OutFile, AnyFile, Text, Comma, Confirm, Hook}
 use Rattle.cm_blocks.specs.declared.node.Block.{Block}
 use Rattle.cm_blocks.specs.declared.node.Node.{Node}
 use Rattle.cm_blocks.specs.Chain.{ChainLeads, Counted, answered, at_node, by_default, chain_at, default_place, default_rest, defaulted, is_confirm, is_line_end, or_later, past_skip, typed, walk}
@@ -56,9 +57,11 @@ trial_reaches s (Key table) flags rest at value looked end phrase is =
 trial_reaches s (Switch table) flags rest at value looked end phrase is = switch_reaches (table_of s.graph table) rest at value looked end is
 trial_reaches s (Noise text) flags rest at value looked end phrase is = noise_reaches text rest at value looked end is
 trial_reaches s Number flags rest at value looked end phrase is = run_reaches is_word number_of rest at value looked end is
+trial_reaches s (Numeral numbers) flags rest at value looked end phrase is = run_reaches is_word (numeral_of numbers) rest at value looked end is
 trial_reaches s Word flags rest at value looked end phrase is = run_reaches is_word (word_of at) rest at value looked end is
 trial_reaches s (Run set) flags rest at value looked end phrase is = run_reaches (has_byte set) (run_of at) rest at value looked end is
 trial_reaches s Quoted flags rest at value looked end phrase is = quoted_reaches rest at value looked end is
+trial_reaches s LongQuoted flags rest at value looked end phrase is = long_quoted_reaches rest at value looked end is
 trial_reaches s (Token text) flags rest at value looked end phrase is =
     let some = and_parts (nat_lt 0 (length text)) _ phrase in
     token_reaches text rest at value looked end (let test = some.0 in grind (arith, nat_tests)) is
@@ -72,7 +75,7 @@ trial_reaches s Text flags rest at value looked end phrase is = run_reaches is_i
 trial_reaches s Comma flags rest at value looked end phrase is = comma_reaches rest at value looked end is
 trial_reaches s Confirm flags rest at value looked end phrase is = confirm_reaches rest at value looked end is
 trial_reaches s (Hook id) flags rest at value looked end phrase is =
-    run_reaches is_name (hook_of s.meanings.verdict id) rest at value looked end is
+    run_reaches (s.meanings.bytes id).test (hook_of s.meanings.verdict id) rest at value looked end is
 
 -- the node that follows an entry is there
 entry_next_below : (count : ℕ) (table : List Entry) (position : ℕ) → 0 < count

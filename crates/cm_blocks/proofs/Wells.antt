@@ -10,9 +10,8 @@ use Rattle.cm_text.specs.Bytes.{is_shown}
 use Rattle.cm_tables.specs.declared.entry.Entry.{Entry}
 use Rattle.cm_blocks.specs.declared.fault.TheConstants.{BLOCK_LIMIT, NODE_LIMIT}
 use Rattle.cm_blocks.specs.declared.grammar.GrammarFault.{GrammarFault}
-use Rattle.cm_blocks.specs.declared.node.Block.{Block}
 use Rattle.cm_blocks.specs.declared.node.Node.{Node}
-use Rattle.cm_blocks.specs.Fault.{grammar_fault, has_bytes, has_flags, has_phrase, has_size, has_table, has_texts, leads_within, names_table, node_fault, nodes_fault, or_fault}
+use Rattle.cm_blocks.specs.Fault.{grammar_fault, has_bytes, has_flags, has_node_texts, has_numbers, has_phrase, has_size, has_texts, leads_within, names_table, node_fault, nodes_fault, or_fault}
 use Rattle.cm_blocks.specs.Grammar.{Graph}
 use Rattle.cm_blocks.specs.Well.{IsWell}
 
@@ -79,8 +78,9 @@ record Tests (tables : List (List Entry)) (count : ℕ) (node : Node) : Type 0 w
   few : nat_lt BLOCK_LIMIT (length node.chain) ≡ false
   have_tables : list_all (names_table tables) node.chain ≡ true
   lead : list_all (leads_within tables count) node.chain ≡ true
-  texts : (option_map_or is_shown node.default true && list_all has_texts node.chain) ≡ true
+  texts : (has_node_texts node && list_all has_texts node.chain) ≡ true
   bytes : list_all has_bytes node.chain ≡ true
+  numbers : list_all has_numbers node.chain ≡ true
   flags : list_all has_flags node.chain ≡ true
 
 tests : (tables : List (List Entry)) (count number : ℕ) (node : Node) → node_fault tables count number node ≡ None
@@ -90,9 +90,10 @@ tests tables count number node none =
     let second = fails (nat_lt BLOCK_LIMIT (length node.chain)) _ _ first.none in
     let third = passes (list_all (names_table tables) node.chain) _ _ second.none in
     let fourth = passes (list_all (leads_within tables count) node.chain) _ _ third.none in
-    let fifth = passes (option_map_or is_shown node.default true && list_all has_texts node.chain) _ _ fourth.none in
+    let fifth = passes (has_node_texts node && list_all has_texts node.chain) _ _ fourth.none in
     let sixth = passes (list_all has_bytes node.chain) _ _ fifth.none in
-    let seventh = passes (list_all has_flags node.chain) _ _ sixth.none in
+    let seventh = passes (list_all has_numbers node.chain) _ _ sixth.none in
+    let eighth = passes (list_all has_flags node.chain) _ _ seventh.none in
     record {
       some = first.failed;
       few = second.failed;
@@ -100,7 +101,8 @@ tests tables count number node none =
       lead = fourth.passed;
       texts = fifth.passed;
       bytes = sixth.passed;
-      flags = seventh.passed;
+      numbers = seventh.passed;
+      flags = eighth.passed;
     }
 
 -- each node of an accepted grammar is well
@@ -109,7 +111,7 @@ pub well_node : (graph : Graph) (place : ℕ) (node : Node) → grammar_fault gr
 well_node graph place node none found =
     let at = node_none graph.tables (length graph.nodes) 0 graph.nodes place node (all_none graph none) found in
     let passed = tests graph.tables (length graph.nodes) at.0 node at.1 in
-    let texts = and_parts (option_map_or is_shown node.default true) _ passed.texts in
+    let texts = and_parts (has_node_texts node) _ passed.texts in
     let is_some = passed.some in
     let is_few = passed.few in
     record {
@@ -136,7 +138,7 @@ pub default_shown : (graph : Graph) (place : ℕ) (node : Node) → grammar_faul
 default_shown graph place node none found =
     let at = node_none graph.tables (length graph.nodes) 0 graph.nodes place node (all_none graph none) found in
     let passed = tests graph.tables (length graph.nodes) at.0 node at.1 in
-    (and_parts (option_map_or is_shown node.default true) _ passed.texts).0
+    (and_parts (option_map_or is_shown node.default true) _ (and_parts (has_node_texts node) _ passed.texts).0).0
 
 -- all generations come with wildcards alone in each of its blocks
 pub flags_agree : (graph : Graph) (place : ℕ) (node : Node) → grammar_fault graph ≡ None

@@ -1,7 +1,8 @@
 -- What the chain of a node makes of a text from a place on, and what that costs (COMND's function blocks).
-use Rattle.std.specs.Prelude.{ℕ, ◌+◌, ◌<◌, ◌≤◌, ◌==◌, max, Bool, true, false, if◌then◌else◌, List, [], ◌∷◌, length, drop, Option, Some, None, unwrap_or, slice_get}
+use Rattle.std.specs.Prelude.{ℕ, ◌+◌, ◌<◌, ◌≤◌, ◌==◌, ◌&&◌, max, Bool, true, false, not, if◌then◌else◌, List, [], ◌∷◌, length, drop, Option, Some, None, unwrap_or, slice_get}
 use Rattle.cm_text.specs.Text.{finished}
 use Rattle.cm_text.specs.declared.text.TheConstants.{TEXT_LIMIT}
+use Rattle.cm_fields.specs.Code.{is_own}
 use Rattle.cm_fields.specs.declared.code.Code.{Code}
 use Rattle.cm_fields.specs.declared.code.Code.TheVariants.{NotConfirmed}
 use Rattle.cm_fields.specs.declared.trial.Try.{Try}
@@ -20,10 +21,14 @@ use Rattle.cm_blocks.specs.Setting.{Setting}
 use Rattle.cm_blocks.specs.FieldView.{FieldView}
 use Rattle.cm_blocks.specs.Trial.{looked_of, next_of, price, trial}
 
--- the code of a refusal, or the one before it
+-- the later of two codes, unless the earlier alone is a reason of the program's own
+abbrev pub later_code : Code → Code → Code
+later_code before code = if is_own before && not (is_own code) then before else code
+
+-- what a refusal makes of the code before it
 abbrev pub code_of : Code → Try → Code
 code_of before (Accept value looked end) = before
-code_of before (Refuse code looked) = code
+code_of before (Refuse code looked) = later_code before code
 code_of before More = before
 
 -- what the block of this number answers ends the walk, unless it refuses; so many bytes decide this and all
@@ -34,7 +39,8 @@ or_later graph number looked block (Accept value seen end) later =
 or_later graph number looked block (Refuse code seen) later = later
 or_later graph number looked block More later = Wants number
 
--- the first block that does not refuse, from a number on; where all refuse, the code of the last
+-- the first block that does not refuse, from a number on; where all refuse, the code of the last, or the last reason of
+-- the program's own
 abbrev pub walk : Setting → List ℕ → ℕ → ℕ → ℕ → Code → List Block → Walk
 walk s rest at number looked code [] = Fails code
 walk s rest at number looked code (block ∷ more) =

@@ -5,13 +5,14 @@ use Rattle.std.specs.Option.{option_map_or}
 use Rattle.cm_text.specs.Bytes.{is_shown}
 use Rattle.cm_text.specs.ByteSets.{is_empty}
 use Rattle.cm_tables.specs.declared.entry.Entry.{Entry}
+use Rattle.cm_fields.specs.Numbers.{is_numbers}
 use Rattle.cm_fields.specs.Run.{may_be_field}
 use Rattle.cm_blocks.specs.declared.function.Function.{Function}
-use Rattle.cm_blocks.specs.declared.function.Function.TheVariants.{Key, Switch, Noise, Run, Token, Confirm}
+use Rattle.cm_blocks.specs.declared.function.Function.TheVariants.{Key, Switch, Noise, Numeral, Run, Token, Confirm}
 use Rattle.cm_blocks.specs.declared.node.Block.{Block}
 use Rattle.cm_blocks.specs.declared.node.Node.{Node}
 use Rattle.cm_blocks.specs.declared.grammar.GrammarFault.{GrammarFault}
-use Rattle.cm_blocks.specs.declared.grammar.GrammarFault.TheVariants.{TooMany, EmptyChain, ChainLong, TableRange, NextRange, BadText, BadBytes, BadFlags, NoConfirm}
+use Rattle.cm_blocks.specs.declared.grammar.GrammarFault.TheVariants.{TooMany, EmptyChain, ChainLong, TableRange, NextRange, BadText, BadBytes, BadNumbers, BadFlags, NoConfirm}
 use Rattle.cm_blocks.specs.declared.fault.TheConstants.{NODE_LIMIT, TABLE_LIMIT, BLOCK_LIMIT}
 use Rattle.cm_blocks.specs.Grammar.{Graph}
 
@@ -58,6 +59,10 @@ has_phrase function = true
 abbrev pub has_texts : Block → Bool
 has_texts block = has_phrase block.function && option_map_or is_shown block.help true
 
+-- a node's default and the name of what it awaits are shown as they are
+abbrev pub has_node_texts : Node → Bool
+has_node_texts node = option_map_or is_shown node.default true && option_map_or is_shown node.awaits true
+
 -- the bytes that a function reads are some, and a field may have each
 abbrev pub may_read : Function → Bool
 may_read (Run set) = not (is_empty set) && may_be_field set
@@ -65,6 +70,14 @@ may_read function = true
 
 abbrev pub has_bytes : Block → Bool
 has_bytes block = may_read block.function
+
+-- the numbers that a function reads are some that a field may be
+abbrev pub has_range : Function → Bool
+has_range (Numeral numbers) = is_numbers numbers
+has_range function = true
+
+abbrev pub has_numbers : Block → Bool
+has_numbers block = has_range block.function
 
 -- all generations come with wildcards alone
 abbrev pub has_flags : Block → Bool
@@ -77,10 +90,11 @@ node_fault tables nodes number node =
     else (if nat_lt BLOCK_LIMIT (length node.chain) then Some (ChainLong number)
     else (if not (list_all (names_table tables) node.chain) then Some (TableRange number)
     else (if not (list_all (leads_within tables nodes) node.chain) then Some (NextRange number)
-    else (if not (option_map_or is_shown node.default true && list_all has_texts node.chain)
+    else (if not (has_node_texts node && list_all has_texts node.chain)
     then Some (BadText number)
     else (if not (list_all has_bytes node.chain) then Some (BadBytes number)
-    else (if not (list_all has_flags node.chain) then Some (BadFlags number) else None))))))
+    else (if not (list_all has_numbers node.chain) then Some (BadNumbers number)
+    else (if not (list_all has_flags node.chain) then Some (BadFlags number) else None)))))))
 
 -- the first of two faults
 abbrev pub or_fault : Option GrammarFault → Option GrammarFault → Option GrammarFault

@@ -5,7 +5,7 @@ use Rattle.cm_blocks.specs.declared.field.Chain.{Chain}
 use Rattle.cm_blocks.specs.declared.field.Chain.TheVariants as chain
 use Rattle.cm_blocks.specs.declared.field.TheConstants.{FIELD_LIMIT}
 use Rattle.cm_blocks.specs.Chain.{chain_at}
-use Rattle.cm_blocks.specs.Parse.{node_after, parse_of, place_after}
+use Rattle.cm_blocks.specs.Parse.{answer_at, node_after, parse_of, place_after}
 use Rattle.cm_blocks.specs.Setting.{Setting}
 use Rattle.cm_blocks.specs.FieldView.{FieldView}
 
@@ -29,18 +29,19 @@ chain_cost after (chain.Done place) = 0
 chain_cost after (chain.Fault fault) = 0
 chain_cost after (chain.Open place) = 0
 
--- what the trials of a parse cost from a node and a place on, with room for so many fields: that of the
--- ending too, and that of a field that is one too many
-abbrev pub cost_from : Setting → List ℕ → ℕ → ℕ → ℕ → ℕ
-cost_from s text zero node at = (chain_at s node text at).spent
-cost_from s text (suc room) node at =
+-- what the trials of a parse cost from a node and a place on, after these fields, with room for so many more: that
+-- of the ending too, and that of a field that is refused
+abbrev pub cost_from : Setting → List ℕ → List FieldView → ℕ → ℕ → ℕ → ℕ
+cost_from s text before zero node at = (chain_at s node text at).spent
+cost_from s text before (suc room) node at =
     (chain_at s node text at).spent
-    + chain_cost (λ field. cost_from s text room field.next field.end) (chain_at s node text at).chain
+    + chain_cost (λ field. cost_from s text (before ++ field ∷ []) room field.next field.end)
+    (answer_at s text before node at)
 
 -- what the parse of a text costs after fields that are kept
 abbrev pub cost_after : Setting → ℕ → List ℕ → List FieldView → ℕ
 cost_after s node text fields =
-    cost_from s text (FIELD_LIMIT - length fields) (node_after node fields) (place_after 0 fields)
+    cost_from s text fields (FIELD_LIMIT - length fields) (node_after node fields) (place_after 0 fields)
 
 -- what the parse of the new text costs who holds that of the old one
 unfoldable pub cost : Setting → ℕ → List ℕ → List ℕ → ℕ

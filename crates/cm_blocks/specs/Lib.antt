@@ -1,10 +1,12 @@
 pub mod Chain
 pub mod Count
+pub mod Default
 pub mod Fault
 pub mod FieldView
 pub mod Grammar
 pub mod KeptParse
 pub mod Keyword
+pub mod Once
 pub mod Parse
 pub mod Setting
 pub mod Trial

@@ -7,6 +7,7 @@ use Rattle.cm_blocks.specs.declared.field.Ending.{Ending}
 use Rattle.cm_blocks.specs.declared.field.Ending.TheVariants as ending
 use Rattle.cm_blocks.specs.declared.field.TheConstants.{FIELD_LIMIT}
 use Rattle.cm_blocks.specs.Chain.{chain_at}
+use Rattle.cm_blocks.specs.Once.{AreApart, unless_repeated}
 use Rattle.cm_blocks.specs.Setting.{Setting}
 use Rattle.cm_blocks.specs.FieldView.{FieldView}
 
@@ -32,15 +33,20 @@ after_chain after (chain.Done place) = record { fields = []; ending = ending.Don
 after_chain after (chain.Fault fault) = record { fields = []; ending = ending.Fault fault }
 after_chain after (chain.Open place) = record { fields = []; ending = ending.Open place }
 
--- the parse from a node and a place on, with room for so many fields
-abbrev pub parse_from : Setting → List ℕ → ℕ → ℕ → ℕ → Parse
-parse_from s text zero node at = record { fields = []; ending = ending_of (chain_at s node text at).chain }
-parse_from s text (suc room) node at =
-    after_chain (λ field. parse_from s text room field.next field.end) (chain_at s node text at).chain
+-- what the chain of a node answers after these fields: a field that repeats an option of theirs is refused
+abbrev pub answer_at : Setting → List ℕ → List FieldView → ℕ → ℕ → Chain
+answer_at s text before node at = unless_repeated s.graph before (chain_at s node text at).chain
+
+-- the parse from a node and a place on, after these fields, with room for so many more
+abbrev pub parse_from : Setting → List ℕ → List FieldView → ℕ → ℕ → ℕ → Parse
+parse_from s text before zero node at = record { fields = []; ending = ending_of (answer_at s text before node at) }
+parse_from s text before (suc room) node at =
+    after_chain (λ field. parse_from s text (before ++ field ∷ []) room field.next field.end)
+    (answer_at s text before node at)
 
 -- [key-parse] the parse of a text from a node on
 unfoldable pub parse_of : Setting → ℕ → List ℕ → Parse
-parse_of s node text = parse_from s text FIELD_LIMIT node 0
+parse_of s node text = parse_from s text [] FIELD_LIMIT node 0
 
 -- the node and the place after fields, or those from which they are sought
 abbrev pub node_after : ℕ → List FieldView → ℕ
@@ -64,18 +70,21 @@ IsLast (chain.Done place) = Unit {0}
 IsLast (chain.Fault fault) = Unit {0}
 IsLast (chain.Open place) = Unit {0}
 
--- from a node and a place on, a text has these fields, of which there is room for so many, and ends so
-pub record Parses (s : Setting) (text : List ℕ) (room node at : ℕ) (fields : List FieldView) (ends : Ending)
-    : Type 0 where
+-- from a node and a place on, after the fields before, a text has these fields, of which there is room for so many
+-- and none of which repeats an option, and ends so
+pub record Parses (s : Setting) (text : List ℕ) (before : List FieldView) (room node at : ℕ)
+    (fields : List FieldView) (ends : Ending) : Type 0 where
   pub few : length fields ≤ room
   pub follow : Follow s text node at fields
-  pub ending : ends ≡ ending_of (chain_at s (node_after node fields) text (place_after at fields)).chain
+  pub once : AreApart s.graph before fields
+  pub ending : ends
+      ≡ ending_of (answer_at s text (before ++ fields) (node_after node fields) (place_after at fields))
   pub last : length fields < room
-      → IsLast (chain_at s (node_after node fields) text (place_after at fields)).chain
+      → IsLast (answer_at s text (before ++ fields) (node_after node fields) (place_after at fields))
 
 -- the fields and the ending are the parse of the whole text
 abbrev pub IsParse : Setting → ℕ → List ℕ → List FieldView → Ending → Type 0
-IsParse s node text fields ends = Parses s text FIELD_LIMIT node 0 fields ends
+IsParse s node text fields ends = Parses s text [] FIELD_LIMIT node 0 fields ends
 
 -- the start of a parse: the first block of the node wants more
 abbrev pub open_at : ℕ → ℕ → Ending

@@ -9,15 +9,16 @@ use Rattle.cm_fields.specs.declared.trial.Try.TheVariants.{Accept, Refuse, More}
 use Rattle.cm_fields.specs.declared.value.Value.{Value}
 use Rattle.cm_fields.specs.declared.value.Value.TheVariants as values
 use Rattle.cm_fields.specs.Mark.{comma, confirm}
+use Rattle.cm_fields.specs.Numeral.{numeral}
 use Rattle.cm_fields.specs.Phrase.{noise, token}
-use Rattle.cm_fields.specs.Quoted.{quoted}
+use Rattle.cm_fields.specs.Quoted.{long_quoted, quoted}
 use Rattle.cm_fields.specs.Run.{number, run_field, word}
 use Rattle.cm_fields.specs.Text.{text_field}
 use Rattle.cm_files.specs.declared.flags.Flags.{Flags}
 use Rattle.cm_files.specs.Fields.{directory, file, user}
 use Rattle.cm_hooks.specs.Field.{hook}
 use Rattle.cm_blocks.specs.declared.function.Function.{Function}
-use Rattle.cm_blocks.specs.declared.function.Function.TheVariants.{Key, Switch, Noise, Number, Word, Run, Quoted, Token, Date, User, Directory, InFile, OutFile, AnyFile, Text, Comma, Confirm, Hook}
+use Rattle.cm_blocks.specs.declared.function.Function.TheVariants.{Key, Switch, Noise, Number, Numeral, Word, Run, Quoted, LongQuoted, Token, Date, User, Directory, InFile, OutFile, AnyFile, Text, Comma, Confirm, Hook}
 use Rattle.cm_blocks.specs.declared.node.Block.{Block}
 use Rattle.cm_blocks.specs.Grammar.{Graph}
 use Rattle.cm_blocks.specs.Keyword.{key, switch}
@@ -34,9 +35,11 @@ trial s (Key table) flags rest at = key (table_of s.graph table) rest at
 trial s (Switch table) flags rest at = switch (table_of s.graph table) rest at
 trial s (Noise text) flags rest at = noise text rest at
 trial s Number flags rest at = number rest at
+trial s (Numeral numbers) flags rest at = numeral numbers rest at
 trial s Word flags rest at = word rest at
 trial s (Run set) flags rest at = run_field set rest at
 trial s Quoted flags rest at = quoted rest at
+trial s LongQuoted flags rest at = long_quoted rest at
 trial s (Token text) flags rest at = token text rest at
 trial s Date flags rest at = date rest at
 trial s User flags rest at = user s.catalogue rest at
@@ -47,7 +50,7 @@ trial s AnyFile flags rest at = file s.catalogue Any flags rest at
 trial s Text flags rest at = text_field rest at
 trial s Comma flags rest at = comma rest at
 trial s Confirm flags rest at = confirm rest at
-trial s (Hook id) flags rest at = hook s.meanings.verdict id rest at
+trial s (Hook id) flags rest at = hook s.meanings id rest at
 
 -- how many bytes it looked at, of so many
 abbrev pub looked_of : ℕ → Try → ℕ

@@ -1,9 +1,10 @@
 // The chain of a node, tried on a text.
 ghost use Rattle.std.specs.Prelude.{◌≡◌, ◌+◌, ◌≤◌, ◌<◌, ◌&&◌, true, All, IfSome, drop, if◌then◌else◌, is_some, length, unwrap_or};
 ghost use Rattle.cm_text.specs.Text.{finished};
+ghost use Rattle.cm_fields.specs.Code.{is_own};
 ghost use Rattle.cm_fields.specs.Skip.{skip};
 ghost use Rattle.cm_fields.specs.declared.code.Code.TheVariants.{NotConfirmed};
-ghost use Rattle.cm_blocks.specs.Chain.{ChainLeads, IsNear, answered, chain_at, is_line_end, spent, walk};
+ghost use Rattle.cm_blocks.specs.Chain.{ChainLeads, IsNear, answered, chain_at, is_line_end, later_code, spent, walk};
 ghost use Rattle.cm_blocks.specs.Setting.{setting};
 ghost use Rattle.cm_blocks.specs.Well.{IsWellBlock};
 
@@ -18,7 +19,7 @@ use cm_text::{NAME_LIMIT, Name, TEXT_LIMIT};
 use std::sync::ledger::Ledger;
 
 // The most bytes of a default, finished as a line.
-const DEFAULT_LIMIT: usize = NAME_LIMIT + 1;
+pub(crate) const DEFAULT_LIMIT: usize = NAME_LIMIT + 1;
 
 // What the blocks of a chain answer in order.
 #[derive(Clone, Copy)]
@@ -36,10 +37,25 @@ pub enum Walk {
     Wants {
         block: u8,
     },
-    // All refuse, the last one so.
+    // All refuse, the last one so, or with the last reason of the program's own.
     Fails {
         code: Code,
     },
+}
+
+// Whether a code is a reason of the program's own.
+fn is_own(code: &Code) -> bool
+    ensures { result ≡ is_own code.now }
+{
+    matches!(code, Code::Own(_))
+}
+
+// The later of two codes, unless the earlier alone is a reason of the program's own.
+fn later_code(before: Code, code: Code) -> Code
+    ensures { result ≡ later_code before code }
+{
+    let is_kept = is_own(&before) && !is_own(&code);
+    if is_kept { before } else { code }
 }
 
 // Tries the blocks in order, up to the first that does not refuse, and counts each.
@@ -81,7 +97,7 @@ fn walk_blocks<N: Names, R: Rules, L: Ledger>(
                     end: *end,
                 };
             }
-            Try::Refuse { code: refusal, .. } => code = *refusal,
+            Try::Refuse { code: refusal, .. } => code = later_code(code, *refusal),
             Try::More => {
                 return Walk::Wants {
                     block: number as u8,
@@ -177,7 +193,7 @@ fn default_line(node: &Node, on_default: bool) -> ArrayVec<u8, DEFAULT_LIMIT>
 }
 
 // The default of a node, finished as a line.
-fn finished(text: &Name) -> ArrayVec<u8, DEFAULT_LIMIT>
+pub(crate) fn finished(text: &Name) -> ArrayVec<u8, DEFAULT_LIMIT>
     ensures { result.items ≡ finished text.now }
 {
     let mut line = ArrayVec::new();
@@ -214,8 +230,9 @@ fn tried_on<'a>(
 /// Blanks and comments are skipped; in a comment that is not ended the answer is Open with no block. Where
 /// the line ends there and the node has a default, the blocks are tried on that, and the field is at the
 /// place with no bytes. The first block that does not refuse decides: its field, Done for the end of the
-/// line, Open where it wants more. Where all refuse the answer is Fault with the code of the last. The
-/// counter rises by the bytes that each block looked at, and one for each.
+/// line, Open where it wants more. Where all refuse the answer is Fault with the code of the last, but with
+/// the last reason of the program's own (`Code::Own`) where a block gave one. The counter rises by the bytes
+/// that each block looked at, and one for each.
 #[tactic(auto, using(crate::proofs::Walks::tries_lead), unfolding(crate::specs::Chain::chain_at))]
 pub fn try_chain<N: Names, R: Rules, L: Ledger>(
     grammar: &Grammar,

@@ -3,7 +3,7 @@ ghost use Rattle.std.specs.Prelude.{◌≡◌, ◌≤◌, true, length, nat_lt};
 ghost use Rattle.std.specs.List.{list_all, list_any};
 ghost use Rattle.std.specs.Option.{option_map_or};
 ghost use Rattle.cm_text.specs.Bytes.{is_shown};
-ghost use Rattle.cm_blocks.specs.Fault.{chain_confirms, entries_at, entries_of, grammar_fault, has_bytes, has_flags, has_phrase, has_size, has_table, has_texts, is_confirm, is_parenthesis, is_phrase, leads_within, may_read, names_table, node_fault, nodes_fault};
+ghost use Rattle.cm_blocks.specs.Fault.{chain_confirms, entries_at, entries_of, grammar_fault, has_bytes, has_flags, has_node_texts, has_numbers, has_phrase, has_range, has_size, has_table, has_texts, is_confirm, is_parenthesis, is_phrase, leads_within, may_read, names_table, node_fault, nodes_fault};
 
 use crate::{Block, Function, GrammarFault, Node};
 use cm_fields::may_be_field;
@@ -73,6 +73,12 @@ fn is_shown_or_none(text: &Option<Name>) -> bool
         Some(text) => is_shown(text.as_bytes()),
         None => true,
     }
+}
+
+fn has_node_texts(node: &Node) -> bool
+    ensures { result ≡ has_node_texts node.now }
+{
+    is_shown_or_none(&node.default) && is_shown_or_none(&node.awaits)
 }
 
 fn has_texts(block: &Block) -> bool
@@ -150,6 +156,28 @@ fn have_bytes(chain: &[Block]) -> bool
     chain.iter().all(has_bytes)
 }
 
+// Whether the numbers that a function reads are some that a field may be.
+fn has_range(function: &Function) -> bool
+    ensures { result ≡ has_range function.now }
+{
+    match function {
+        Function::Numeral(numbers) => numbers.is_valid(),
+        _ => true,
+    }
+}
+
+fn has_numbers(block: &Block) -> bool
+    ensures { result ≡ has_numbers block.now }
+{
+    has_range(&block.function)
+}
+
+fn have_numbers(chain: &[Block]) -> bool
+    ensures { result ≡ list_all has_numbers chain.now }
+{
+    chain.iter().all(has_numbers)
+}
+
 fn has_flags(block: &Block) -> bool
     ensures { result ≡ has_flags block.now }
 {
@@ -175,10 +203,12 @@ fn node_fault(tables: &[Table], nodes: usize, number: u16, node: &Node) -> Optio
         Some(GrammarFault::TableRange(number))
     } else if !lead_within(tables, nodes, chain) {
         Some(GrammarFault::NextRange(number))
-    } else if !(is_shown_or_none(&node.default) && have_texts(chain)) {
+    } else if !(has_node_texts(node) && have_texts(chain)) {
         Some(GrammarFault::BadText(number))
     } else if !have_bytes(chain) {
         Some(GrammarFault::BadBytes(number))
+    } else if !have_numbers(chain) {
+        Some(GrammarFault::BadNumbers(number))
     } else if !have_flags(chain) {
         Some(GrammarFault::BadFlags(number))
     } else {

@@ -121,7 +121,8 @@ pub struct Open {
 /// Why and where a text is refused.
 #[derive(Clone, Copy, Debug, PartialEq, Eq)]
 pub struct Fault {
-    /// The refusal of the last block of the chain.
+    /// The refusal of the last block of the chain, or the last reason of the program's own (`Code::Own`) where a block
+    /// gave one.
     pub code: Code,
     /// The node whose chain refused.
     pub node: u16,

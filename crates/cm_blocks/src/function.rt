@@ -1,4 +1,5 @@
 // What a block reads, and what its field is for.
+use cm_fields::Numbers;
 use cm_text::{ByteSet, Name};
 
 /// A function of COMND: what a block reads. A number names a table of the grammar, or a hook.
@@ -12,12 +13,16 @@ pub enum Function {
     Noise(Name),
     /// A decimal number (.CMNUM).
     Number,
+    /// One of these numbers, in their radix (.CMNUM).
+    Numeral(Numbers),
     /// A word (.CMFLD).
     Word,
     /// A run of the bytes of this set, of any length (.CMFLD with a break mask, .CMBRK).
     Run(ByteSet),
-    /// A quoted text (.CMQST).
+    /// A quoted text, of at most 39 bytes (.CMQST).
     Quoted,
+    /// A quoted text as long as the line (.CMQST).
+    LongQuoted,
     /// This text (.CMTOK).
     Token(Name),
     /// A date (.CMTAD).

@@ -1,5 +1,6 @@
 //! Laws of grammars, chains and parses.
-ghost use Rattle.std.specs.Prelude.{◌≡◌, ◌+◌, ◌<◌, ◌≤◌, ◌++◌, ℕ, List, [], None, length};
+ghost use Rattle.std.specs.Prelude.{◌≡◌, ◌+◌, ◌<◌, ◌≤◌, ◌++◌, ◌∷◌, ℕ, true, false, List, [], None, length};
+ghost use Rattle.std.specs.List.{list_all};
 ghost use Rattle.cm_text.specs.Text.{finished};
 ghost use Rattle.cm_fields.specs.Local.{IsLocal};
 ghost use Rattle.cm_files.specs.declared.flags.Flags.{Flags};
@@ -8,10 +9,13 @@ ghost use Rattle.cm_blocks.specs.declared.field.Chain.TheVariants as chain;
 ghost use Rattle.cm_blocks.specs.declared.field.Ending.{Ending};
 ghost use Rattle.cm_blocks.specs.declared.field.TheConstants.{FIELD_LIMIT};
 ghost use Rattle.cm_blocks.specs.declared.function.Function.{Function};
+ghost use Rattle.cm_blocks.specs.declared.node.Node.{Node};
 ghost use Rattle.cm_blocks.specs.Chain.{chain_at};
 ghost use Rattle.cm_blocks.specs.Count.{trials_of};
+ghost use Rattle.cm_blocks.specs.Default.{bare, is_plain_block, takes_default};
 ghost use Rattle.cm_blocks.specs.Fault.{grammar_fault};
 ghost use Rattle.cm_blocks.specs.KeptParse.{BeginsWith, kept};
+ghost use Rattle.cm_blocks.specs.Once.{repeats};
 ghost use Rattle.cm_blocks.specs.Parse.{IsClosed, IsParse, open_at, parse_of};
 ghost use Rattle.cm_blocks.specs.Setting.{Setting};
 ghost use Rattle.cm_blocks.specs.FieldView.{FieldView};
@@ -56,10 +60,23 @@ pub fn a_parse_makes_65_trials()
     ensures most { (s : Setting) → (node : ℕ) → (text : List ℕ) → trials_of s node text ≤ 65 }
 {}
 
+/// A line has an option once: no field of a parse is an option that one of the fields before it is.
+pub fn a_line_has_an_option_once()
+    ensures { (s : Setting) → (node : ℕ) → (text : List ℕ) → (before after : List FieldView) → (field : FieldView)
+        → (parse_of s node text).fields ≡ before ++ field ∷ after → repeats s.graph before field ≡ false }
+{}
+
 /// The parse of a finished text is decided: it is done or refused, and never open.
 pub fn a_finished_text_is_decided()
     ensures { (s : Setting) → grammar_fault s.graph ≡ None → (node : ℕ) → (line : List ℕ)
         → IsClosed (parse_of s node (finished line)).ending }
+{}
+
+/// What plain blocks make of the default of their node they make of it in every setting of one grammar, whatever names
+/// and rules there are: a bad default is never taken.
+pub fn a_plain_default_is_decided()
+    ensures { (s : Setting) → (node : Node) → (text : List ℕ) → list_all is_plain_block node.chain ≡ true
+        → takes_default s node text ≡ takes_default (bare s.graph) node text }
 {}
 
 /// The parse of the empty line from a node of a grammar on has no field, and is open at the first block.

@@ -3,6 +3,7 @@
 #![tactic(auto)]
 
 mod chain;
+mod default;
 mod fault;
 mod field;
 mod function;
@@ -10,6 +11,7 @@ mod grammar;
 mod keyword;
 pub mod laws;
 mod node;
+mod once;
 mod steps;
 mod trial;
 
@@ -20,5 +22,6 @@ pub use function::{Function, Role};
 pub use grammar::{Grammar, GrammarFault};
 pub use keyword::{key, switch};
 pub use node::{Block, Blocks, Node, push_nodes};
+pub use once::{is_used, may_come, repeats};
 pub use steps::Steps;
 pub use trial::try_function;

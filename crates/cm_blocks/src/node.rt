@@ -22,10 +22,12 @@ pub struct Block {
     pub role: Role,
     /// The node that follows its field; after a keyword or a switch the entry's node follows.
     pub next: u16,
+    /// Whether a line has each entry of its table at most once, if it reads keywords or switches.
+    pub once: bool,
 }
 
 impl Block {
-    ghost use Rattle.cm_blocks.specs.Words.{block, confirm, guide};
+    ghost use Rattle.cm_blocks.specs.Words.{block, confirm, guide, once};
 
     /// A block that reads this, for this, before the node that follows. It has no flags, and no help of its own.
     pub fn new(function: Function, role: Role, next: u16) -> Block
@@ -44,7 +46,17 @@ impl Block {
             help: None,
             role,
             next,
+            once: false,
         }
+    }
+
+    /// The same block, of whose table a line has each entry at most once: where an earlier field of the line is the
+    /// same entry, its field is refused with Repeated. Of a block that reads neither keywords nor switches it says
+    /// nothing.
+    pub fn once(self) -> Block
+        ensures { result ≡ once self }
+    {
+        Block { once: true, ..self }
     }
 
     /// The end of a line. The node that follows is never asked.
@@ -110,12 +122,15 @@ pub struct Node {
     pub default: Option<Name>,
     /// Whether `!` and `;` are plain bytes here, and begin no comment.
     pub raw: bool,
+    /// What a line that ends before the field is missing, where its refusal is to say so: as `address` of `?Missing
+    /// address`.
+    pub awaits: Option<Name>,
 }
 
 impl Node {
     ghost use Rattle.cm_blocks.specs.Words.{node};
 
-    /// The node with this chain. It has no default, and comments begin there.
+    /// The node with this chain. It has no default, comments begin there, and it does not say what it awaits.
     pub fn new(chain: Vec<Block>) -> Node
         ensures { result ≡ node chain.items }
     {
@@ -123,6 +138,7 @@ impl Node {
             chain: Blocks::new(chain),
             default: None,
             raw: false,
+            awaits: None,
         }
     }
 }

@@ -9,7 +9,8 @@ ghost use Rattle.cm_blocks.specs.Trial.{entry_next, keyword_next, looked_of, nex
 use crate::{Block, Function, Grammar, key, switch};
 use cm_dates::date;
 use cm_fields::{
-    FileKind, Try, Value, comma, confirm, noise, number, quoted, run_field, text_field, token, word,
+    FileKind, Try, Value, comma, confirm, long_quoted, noise, number, numeral, quoted, run_field,
+    text_field, token, word,
 };
 use cm_files::{Names, directory, file, user};
 use cm_hooks::{Rules, hook_field};
@@ -39,9 +40,11 @@ pub fn try_function<N: Names, R: Rules>(
         Function::Switch(table) => return switch(grammar.table(*table), text, at),
         Function::Noise(phrase) => return noise(phrase.as_str(), text, at),
         Function::Number => return number(text, at),
+        Function::Numeral(numbers) => return numeral(*numbers, text, at),
         Function::Word => return word(text, at),
         Function::Run(set) => return run_field(*set, text, at),
         Function::Quoted => return quoted(text, at),
+        Function::LongQuoted => return long_quoted(text, at),
         Function::Token(phrase) => return token(phrase.as_str(), text, at),
         Function::Date => return date(text, at),
         Function::User => return user(names, text, at),

@@ -34,12 +34,15 @@ const NODES: &str = "Number>1 Word>2 Confirm =7/\
     Word>2 Confirm = !x! AB/\
     raw Word>2 Text>1 =!x!A/\
     Confirm =/\
-    Comma>7 Number>1 =A/\
+    Comma>7 Number>1/\
     Key:0 Switch:1 Hook:0>6/\
     Number>1 Token>1/\
     Noise>1/\
     Confirm Quoted>1/\
-    Key:0 =R";
+    Key:0 =R/\
+    Numeral:0>1/\
+    Numeral:5>1 LongQuoted>1/\
+    Hook:0>1 Number>1 =ABC";
 
 fn grammar(alloc: Global) -> Result<Grammar, Fail> {
     Ok(Grammar::new(nodes_of(alloc, NODES)?, tables(alloc)?)?)
@@ -70,6 +73,13 @@ const OF_THE_TEXT: &str = "\
     defaulted: false, role: None, next: 1 })\n\
     11 0 \"A\"  => Field(Field { node: 11, block: 1, value: Quoted(Span { start: 1, end: 2 }), start: 0, end: 3, \
     need: 4, defaulted: false, role: Value, next: 1 })\n\
+    13 0 10\r => Field(Field { node: 13, block: 0, value: Integer(10), start: 0, end: 2, need: 3, \
+    defaulted: false, role: Value, next: 1 })\n\
+    14 0 -5, => Field(Field { node: 14, block: 0, value: Integer(-5), start: 0, end: 2, need: 3, \
+    defaulted: false, role: Value, next: 1 })\n\
+    14 0 \"thirty-nine bytes stand before the end.!\"\r => Field(Field { node: 14, block: 1, \
+    value: Quoted(Span { start: 1, end: 41 }), start: 0, end: 42, need: 43, defaulted: false, role: Value, \
+    next: 1 })\n\
     8 0 ru  => Field(Field { node: 8, block: 0, value: Key { entry: 1, code: 60 }, start: 0, end: 2, need: 3, \
     defaulted: false, role: Verb, next: 3 })\n\
     8 0 /A: => Field(Field { node: 8, block: 1, value: Switch { entry: 0, code: 70 }, start: 0, end: 3, need: 3, \
@@ -113,15 +123,19 @@ const NO_FIELD: &str = "1 0 \r => Done(0)
 0 0   , => Fault(Fault { code: NotConfirmed, node: 0, at: 2 })
 6 0 A\r => Fault(Fault { code: NotConfirmed, node: 6, at: 0 })
 7 0 A\r => Fault(Fault { code: BadNumber, node: 7, at: 0 })
-7 0  \r => Fault(Fault { code: BadNumber, node: 7, at: 1 })
+15 0  \r => Fault(Fault { code: BadNumber, node: 15, at: 1 })
 8 0 ABC\r => Fault(Fault { code: Rejected, node: 8, at: 0 })
 8 2 GO, => Fault(Fault { code: NoField, node: 8, at: 2 })
 11 0 A\r => Fault(Fault { code: NotQuoted, node: 11, at: 0 })
+13 0 9\r => Fault(Fault { code: OutOfRange(Outside(\"Must be 10 to 100000\")), node: 13, at: 0 })
+13 0  A\r => Fault(Fault { code: BadNumber, node: 13, at: 1 })
+14 0 8\r => Fault(Fault { code: NotQuoted, node: 14, at: 0 })
 12 0 X  => Fault(Fault { code: NotKeyword, node: 12, at: 0 })
 0 0  => Open(Open { node: 0, block: Some(0), at: 0 })
 0 0 12A => Open(Open { node: 0, block: Some(0), at: 0 })
 0 2 12   => Open(Open { node: 0, block: Some(0), at: 4 })
 7 0 1 => Open(Open { node: 7, block: Some(1), at: 0 })
+13 0 10 => Open(Open { node: 13, block: Some(0), at: 0 })
 8 0 A$ => Open(Open { node: 8, block: Some(2), at: 0 })
 2 0  ;x => Open(Open { node: 2, block: Some(1), at: 1 })
 1 3  !x => Open(Open { node: 1, block: Some(0), at: 3 })
@@ -146,11 +160,13 @@ fn each_block_costs_its_bytes_and_one()
           help = None;
           role = Role.None;
           next = 0;
+          once = false;
         } in
         let node : Node = record {
           chain = block Function.Number ∷ block Function.Word ∷ block Function.Confirm ∷ [];
           default = Some (codes "7");
           raw = false;
+          awaits = None;
         } in
         let s = setting (record { nodes = node ∷ []; tables = [] }) catalogue meanings in
         ((chain_at s 0 (codes "12A" ++ 13 ∷ []) 0).spent ≡ 10)

@@ -35,11 +35,13 @@ fn edits_cost_their_trials()
           help = None;
           role = Role.None;
           next = next;
+          once = false;
         } in
         let node : Function → ℕ → Node = λ function next. record {
           chain = block Function.Confirm 0 ∷ block function next ∷ [];
           default = None;
           raw = false;
+          awaits = None;
         } in
         let entry : List ℕ → Entry = λ text. record {
           text = text;

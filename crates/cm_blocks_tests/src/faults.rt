@@ -1,7 +1,7 @@
 // What makes nodes and tables a grammar, by example.
 
 use crate::cases::{Subject, debug_text, hold, numbered};
-use crate::grammars::{node_of, nodes_of, two_tables};
+use crate::grammars::{entry, node_of, nodes_of, two_tables};
 use cm_blocks::{Block, Blocks, Function, Grammar, GrammarFault, Node, Role};
 use cm_tables::Table;
 use cm_text::{NAME_LIMIT, Name};
@@ -65,7 +65,20 @@ Run:1>9 => Some(NextRange(0))
 Run:1 Nothing => Some(BadText(0))
 Run:1+all_generations => Some(BadBytes(0))
 Word+all_generations Run:1 => Some(BadBytes(0))
-Run:1/ => Some(BadBytes(0))";
+Run:1/ => Some(BadBytes(0))
+Confirm/Numeral:0 => None
+Confirm/Numeral:1 => Some(BadNumbers(1))
+Confirm/Numeral:2 => None
+Confirm/Numeral:3 => Some(BadNumbers(1))
+Confirm/Numeral:4 => Some(BadNumbers(1))
+Confirm/Word Numeral:4 => Some(BadNumbers(1))
+Confirm/Numeral:5 => None
+Numeral:1 Nothing => Some(BadText(0))
+Numeral:1 Run:1 => Some(BadBytes(0))
+Numeral:1+all_generations => Some(BadNumbers(0))
+Word+all_generations Numeral:1 => Some(BadNumbers(0))
+Numeral:1/ => Some(BadNumbers(0))
+Confirm/LongQuoted => None";
 
 // [grammar-fault]
 #[test]
@@ -88,6 +101,95 @@ Word =A? => Some(BadText(0))";
 #[test]
 fn finds_a_bad_default_among_other_faults(rt: HostRuntime) -> Result<(), Fail> {
     hold(rt.alloc(), &Faults, DEFAULT_FAULTS)
+}
+
+// The fault of these nodes, beside a table of keywords of which two begin alike.
+struct Defaults;
+
+impl Subject for Defaults {
+    fn answer(&self, alloc: Global, given: &str) -> Result<String, Fail> {
+        let entries = [
+            entry("QUIT", false, 0, 0),
+            entry("SEND", false, 0, 0),
+            entry("SET", false, 0, 0),
+        ];
+        let table = Table::new(Vec::from_array(alloc, entries)?)?;
+        let found = Grammar::new(nodes_of(alloc, given)?, vec![in alloc; table]?).err();
+        debug_text(alloc, &found)
+    }
+}
+
+// What a field of the text would be is a default. Blanks and comments before it are skipped, but in a raw node `!`
+// begins none; what is after the field is not read.
+const TAKEN: &str = "Confirm/Number =7 => None
+Confirm/Number =A => Some(BadDefault(1))
+Confirm/Number = => Some(BadDefault(1))
+Confirm/Number Confirm = => None
+Confirm =A => Some(BadDefault(0))
+Confirm/Numeral:0 =10 => None
+Confirm/Numeral:0 =9 => Some(BadDefault(1))
+Confirm/Numeral:0 =100001 => Some(BadDefault(1))
+Confirm/Numeral:0 Word =9 => None
+Confirm/Key:0 =SET => None
+Confirm/Key:0 =q => None
+Confirm/Key:0 =SE => Some(BadDefault(1))
+Confirm/Key:0 =RESET => Some(BadDefault(1))
+Confirm/Word =A B => None
+Confirm/Token =12 => None
+Confirm/Token =13 => Some(BadDefault(1))
+Confirm/Word = !x! A => None
+Confirm/Word =!A => Some(BadDefault(1))
+Confirm/raw Word =!A => Some(BadDefault(1))
+Confirm/raw Text =!A => None";
+
+// [default-fault]
+#[test]
+fn knows_what_defaults_are_taken(rt: HostRuntime) -> Result<(), Fail> {
+    hold(rt.alloc(), &Defaults, TAKEN)
+}
+
+// Where a catalogue or a hook may decide nothing is refused, as a block before or after it may be. The least node
+// decides, and every other fault comes first.
+const DEFAULTS: &str = "Confirm/Hook:0 =$ => None
+Confirm/Hook:0 Number =A => None
+Confirm/Number Hook:0 =A => None
+Confirm/User =$ => None
+Confirm/Directory =$ => None
+Confirm/InFile =$ => None
+Number =A/Confirm => Some(BadDefault(0))
+Confirm/Number =A/Number =B => Some(BadDefault(1))
+Confirm/Number =7/Number =B => Some(BadDefault(2))
+Confirm/Hook:0 =$/Number =B => Some(BadDefault(2))
+Number =A => Some(NoConfirm)
+Confirm/Number =A/Key:1 => Some(TableRange(2))
+Confirm/Number =A/Number =? => Some(BadText(2))";
+
+// [default-fault]
+#[test]
+fn finds_the_first_bad_default(rt: HostRuntime) -> Result<(), Fail> {
+    hold(rt.alloc(), &Defaults, DEFAULTS)
+}
+
+// A grammar of literals: the end of the line, and a number, by default A.
+#[tactic(auto, unfolding(cm_blocks::specs::Fault::grammar_fault))]
+fn with_a_bad_default(alloc: Global) -> Result<Grammar, Fail> {
+    let end = vec![in alloc; Block::new(Function::Confirm, Role::None, 0)]?;
+    let number = Node {
+        chain: Blocks::new(vec![in alloc; Block::new(Function::Number, Role::Value, 0)]?),
+        default: Some(Name::new("A")),
+        raw: false,
+        awaits: None,
+    };
+    let nodes = vec![in alloc; Node::new(end), number]?;
+    Ok(Grammar::of(nodes, Vec::new(alloc)))
+}
+
+// [default-fault]
+#[test]
+fn tells_a_bad_default_of_literals(rt: HostRuntime) -> Result<(), Fail> {
+    let grammar = with_a_bad_default(rt.alloc())?;
+    assert_eq!(rt; grammar.bad_default(), Some(1));
+    Ok(())
 }
 
 // So many nodes of these blocks.
@@ -149,9 +251,12 @@ fn has_good_text(
         chain: Blocks::new(chain),
         default,
         raw: false,
+        awaits: None,
     };
     match Grammar::new(vec![in alloc; node]?, Vec::new(alloc)) {
         Ok(_) => Ok(true),
+        // A default that the node does not take is a text that it may have.
+        Err(GrammarFault::BadDefault(0)) => Ok(true),
         Err(GrammarFault::BadText(0)) => Ok(false),
         Err(fault) => Err(fault)?,
     }

@@ -4,6 +4,7 @@ ghost use Rattle.std.specs.Prelude.{◌≡◌, ◌≤◌, IfOk, length};
 use crate::cases::{Subject, debug_text, hold};
 use crate::files::flags_of;
 use cm_blocks::{Block, Blocks, Function, Grammar, Node, Role};
+use cm_fields::{Numbers, Radix};
 use cm_tables::{Entry, Flag, Table};
 use cm_text::{ByteSet, NAME_LIMIT, Name};
 use std::alloc::Global;
@@ -22,9 +23,11 @@ pub(crate) fn entry(text: &str, colon: bool, code: u16, next: u16) -> Entry
     }
 }
 
-// The functions by their names. A token is `12` or nothing, a guide word `FROM`, and a run of what `set_of` says.
+// The functions by their names. A token is `12` or nothing, a guide word `FROM`, a run of what `set_of` says, and
+// numbers are those of `numbers_of`.
 const FUNCTIONS: &str =
-    "Confirm Word Number Quoted Comma Text User Directory InFile Key Switch Hook Noise Token Date Run Nothing";
+    "Confirm Word Number Quoted Comma Text User Directory InFile Key Switch Hook Noise Token Date Run \
+    Numeral LongQuoted Nothing";
 
 fn function_of(name: &str, number: u16) -> Result<Function, Fail> {
     let place = FUNCTIONS.split(' ').position(|word| word == name);
@@ -45,6 +48,8 @@ fn function_of(name: &str, number: u16) -> Result<Function, Fail> {
         13 => Function::Token(Name::new("12")),
         14 => Function::Date,
         15 => Function::Run(set_of(number)),
+        16 => Function::Numeral(numbers_of(number)),
+        17 => Function::LongQuoted,
         _ => Function::Token(Name::new("")),
     })
 }
@@ -63,10 +68,29 @@ fn set_of(number: u16) -> ByteSet {
     }
 }
 
+// From 10 to 100000, from 11 to 10, up to 35 bits and one more, and from -5 to 7 without a sign and with one.
+fn numbers_of(number: u16) -> Numbers {
+    let (signed, least, most) = match number {
+        0 => (false, 10, 100_000),
+        1 => (false, 11, 10),
+        2 => (false, 0, 34_359_738_367),
+        3 => (false, 0, 34_359_738_368),
+        4 => (false, -5, 7),
+        _ => (true, -5, 7),
+    };
+    Numbers {
+        radix: Radix::Decimal,
+        signed,
+        least,
+        most,
+    }
+}
+
 fn role_of(function: &Function) -> Role {
     match function {
         Function::Word => Role::What,
-        Function::Number | Function::Quoted => Role::Value,
+        Function::Number | Function::Numeral(_) => Role::Value,
+        Function::Quoted | Function::LongQuoted => Role::Value,
         Function::User | Function::Directory | Function::Hook(_) => Role::Files,
         Function::InFile => Role::Source,
         Function::Key(_) => Role::Verb,
@@ -83,8 +107,8 @@ fn with_number(given: &str, mark: char) -> Result<(&str, u16), Fail> {
     }
 }
 
-// The block of a word: its function, `:` and the number of its table or its hook, `+` and a flag, `>` and the next
-// node, of which each but the function may be left out.
+// The block of a word: its function, `:` and the number of its table or its hook, `+` and a flag or `once`, `>` and
+// the next node, of which each but the function may be left out.
 fn block_of(word: &str) -> Result<Block, Fail> {
     let (rest, next) = with_number(word, '>')?;
     let (rest, flags) = rest.split_once('+').unwrap_or((rest, ""));
@@ -97,6 +121,7 @@ fn block_of(word: &str) -> Result<Block, Fail> {
         help: None,
         role,
         next,
+        once: flags == "once",
     })
 }
 
@@ -138,6 +163,7 @@ pub(crate) fn node_of(alloc: Global, given: &str) -> Result<Node, Fail> {
         chain: Blocks::new(chain_of(alloc, words)?),
         default,
         raw: given.starts_with("raw "),
+        awaits: None,
     })
 }
 
@@ -183,7 +209,7 @@ fn list_grammar(alloc: Global) -> Result<Grammar, Fail> {
 
 const LIST: &str = "(None, false, [Block { function: Key(0), flags: Flags { wild: false, \
     all_generations: false, deleted: false, default_all: false, from_source: false, new: false }, \
-    help: None, role: Verb, next: 1 }])";
+    help: None, role: Verb, next: 1, once: false }])";
 
 #[test]
 fn is_made_of_words(rt: HostRuntime) -> Result<(), Fail> {

@@ -31,7 +31,11 @@ mod listing;
 #[cfg(test)]
 mod many;
 #[cfg(test)]
+mod options;
+#[cfg(test)]
 mod patterns;
+#[cfg(test)]
+mod reasons;
 #[cfg(test)]
 mod sample;
 #[cfg(test)]

@@ -1,33 +1,54 @@
 // What the chains of the tests are tried under: rules, and a counter.
-ghost use Rattle.std.specs.Prelude.{◌≡◌, ◌<◌};
+ghost use Rattle.std.specs.Prelude.{◌≡◌, ◌<◌, ◌==◌, codes, if◌then◌else◌};
 
 use crate::cases::{compare, debug_text, numbered, place_of, sides};
 use crate::sample::Sample;
 use cm_blocks::{Grammar, Steps, try_chain};
+use cm_fields::Reason;
 use cm_hooks::{Answer, Rules, Tail};
-use cm_text::Name;
+use cm_text::{Name, is_name};
 use std::alloc::Global;
 use std::marker::Brand;
 use std::sync::ledger::{Blank, Ledger};
 use std::test::Fail;
 
-// An atom is taken, with its number of bytes, unless it has three.
-struct Sizes;
+// An atom is taken, with its number of bytes, unless it has three, or five, which is refused with a reason: the hook 0
+// has one of its own.
+pub(crate) struct Sizes;
 
 impl Rules for Sizes {
-    ghost use Rattle.std.specs.Prelude.{◌==◌, [], if◌then◌else◌, length};
-    ghost use Rattle.cm_hooks.specs.declared.answer.Answer.TheVariants.{Yes, No};
+    ghost use Rattle.std.specs.Prelude.{◌==◌, [], codes, if◌then◌else◌, length};
+    ghost use Rattle.cm_hooks.specs.FieldBytes.{name_bytes};
+    ghost use Rattle.cm_hooks.specs.declared.answer.Answer.TheVariants.{Yes, No, NoBecause};
     ghost use Rattle.cm_hooks.specs.declared.answer.Tail.TheVariants as tails;
 
     ghost meanings = { λ it. record {
-      verdict = λ id atom. if length atom == 3 then No else Yes (length atom);
+      bytes = λ id. name_bytes;
+      names = λ id. [];
+      verdict = λ id atom. if length atom == 3 then No
+          else if length atom == 5
+          then NoBecause (record { number = if id == 0 then 200 else 201; text = codes "Five bytes" })
+          else Yes (length atom);
       completion = λ id atom. tails.None;
       help = λ id. [];
     } };
 
-    fn verdict(&self, _id: u8, atom: &[u8]) -> Answer {
+    fn has_byte(&self, _id: u8, byte: u8) -> bool {
+        is_name(byte)
+    }
+
+    fn names(&self, _id: u8) -> usize {
+        0
+    }
+
+    fn name(&self, _id: u8, _number: usize) -> Option<Name> {
+        None
+    }
+
+    fn verdict(&self, id: u8, atom: &[u8]) -> Answer {
         match atom.len() {
             3 => Answer::No,
+            5 => Answer::NoBecause(five_bytes(id)),
             size => Answer::Yes(size as u64),
         }
     }
@@ -41,6 +62,17 @@ impl Rules for Sizes {
     }
 
     fn are_lawful(&self) {}
+}
+
+#[tactic(auto, unfolding(cm_fields::specs::Reason::is_reason, cm_fields::specs::Reason::is_reason_text))]
+fn five_bytes(id: u8) -> Reason
+    ensures { result ≡ record { number = if id == 0 then 200 else 201; text = codes "Five bytes" } }
+{
+    if id == 0 {
+        Reason::of(200, "Five bytes")
+    } else {
+        Reason::of(201, "Five bytes")
+    }
 }
 
 // The node that a case gives answers on its text, from the place that it gives.

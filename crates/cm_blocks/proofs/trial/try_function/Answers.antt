@@ -1,6 +1,6 @@
 -- Each function looks at no more than there is.
 use Rattle.cm_fields.proofs.Phrases.{noise_is_local, token_is_local}
-use Rattle.cm_fields.proofs.QuotedTexts.{quoted_is_local}
+use Rattle.cm_fields.proofs.QuotedTexts.{long_quoted_is_local, quoted_is_local}
 use Rattle.cm_files.proofs.Trials.{directory_is_local, file_is_local, user_is_local}
 use Rattle.cm_blocks.proofs.Switches.{switch_is_local}
 use Rattle.cm_blocks.proofs.Trials.{seen_from}
@@ -17,6 +17,10 @@ returns-in-Noise-clause-seen g c =
 pub returns-in-Quoted-clause-seen : goal.returns-in-Quoted-clause-seen
 returns-in-Quoted-clause-seen g c =
     seen_from _ quoted_is_local c.args.text.now c.args.at c.quoted.result c.quoted.ensures
+
+pub returns-in-LongQuoted-clause-seen : goal.returns-in-LongQuoted-clause-seen
+returns-in-LongQuoted-clause-seen g c =
+    seen_from _ long_quoted_is_local c.args.text.now c.args.at c.long_quoted.result c.long_quoted.ensures
 
 pub returns-in-Token-clause-seen : goal.returns-in-Token-clause-seen
 returns-in-Token-clause-seen g c =
