@@ -20,7 +20,7 @@ use Rattle.cm_blocks.specs.declared.field.Chain.TheVariants as chain
 use Rattle.cm_blocks.specs.declared.field.Open.{Open}
 use Rattle.cm_blocks.specs.declared.node.Block.{Block}
 use Rattle.cm_blocks.specs.declared.node.Node.{Node}
-use Rattle.cm_blocks.specs.Chain.{Counted, at_node, by_default, chain_at, code_of, is_confirm, is_line_end, on_text, or_later, past_skip, typed, walk}
+use Rattle.cm_blocks.specs.Chain.{Counted, at_node, by_default, chain_at, code_of, is_confirm, is_line_end, later_code, on_text, or_later, past_skip, typed, walk}
 use Rattle.cm_blocks.specs.Setting.{Setting}
 use Rattle.cm_blocks.specs.Trial.{looked_of, next_of, trial}
 use Rattle.cm_blocks.proofs.Needs.{walk_step}
@@ -46,7 +46,7 @@ wants_from s rest at number looked code (block ∷ blocks) b is =
         (walk s rest at (number + 1) (max looked (looked_of (length rest) answer)) (code_of code answer) blocks) ≡ Wants b
         → number ≤ b
     by (Accept value seen end) after is = cc
-    by (Refuse refusal seen) after is = let further = after (max looked seen) refusal is in omega arith
+    by (Refuse refusal seen) after is = let further = after (max looked seen) (later_code code refusal) is in omega arith
     by More after is = let same : number ≡ b = cc in omega arith
 
 -- the function of the block at a place wants more, and where it takes a field of the longer text, so does the walk
@@ -90,7 +90,7 @@ walk_goes s rest more at number looked code (first ∷ blocks) zero block found 
         let step = sym (walk_step s rest at number looked code block blocks (Accept value seen end) t) ∙ is in cc
     by (Refuse refusal seen) t is =
         let step = sym (walk_step s rest at number looked code block blocks (Refuse refusal seen) t) ∙ is in
-        let further = wants_from s rest at (number + 1) (max looked seen) refusal blocks (number + 0) step in
+        let further = wants_from s rest at (number + 1) (max looked seen) (later_code code refusal) blocks (number + 0) step in
         absurd (omega arith)
     by More t is = record { wants = t; takes = takes }
 walk_goes s rest more at number looked code (first ∷ blocks) (suc place) block found is =
@@ -112,7 +112,7 @@ walk_goes s rest more at number looked code (first ∷ blocks) (suc place) block
         absurd (omega arith)
     by (Refuse refusal seen) t after =
         let step = sym (walk_step s rest at number looked code first blocks (Refuse refusal seen) t) ∙ is in
-        let goes = after (max looked seen) refusal (step ∙ ap Wants (sym here)) in
+        let goes = after (max looked seen) (later_code code refusal) (step ∙ ap Wants (sym here)) in
         let stays : trial s first.function first.flags (rest ++ more) at ≡ Refuse refusal seen =
         subst (λ (answer : Try). Stays answer (trial s first.function first.flags (rest ++ more) at)) t
         ((trial_is_local s first.function first.flags).stays rest more at) in

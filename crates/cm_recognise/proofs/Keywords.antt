@@ -6,17 +6,15 @@ use Rattle.std.proofs.lemmas.Bool.{and_parts}
 use Rattle.std.proofs.lemmas.Bool.Decides.{nat_tests}
 use Rattle.std.proofs.lemmas.List.Folds.{prefix_len-append}
 use Rattle.std.proofs.Math.Seq.{take-append_seam}
-use Rattle.cm_lists.proofs.Prefixes.{prefix_len_both, prefix_len_drop}
+use Rattle.cm_lists.proofs.Prefixes.{prefix_len_both}
 use Rattle.cm_text.specs.BeginLaws.{length-whole}
 use Rattle.cm_text.specs.Bytes.{is_blank, is_word}
+use Rattle.cm_text.specs.Case.{equals}
 use Rattle.cm_tables.specs.declared.entry.Entry.{Entry}
 use Rattle.cm_tables.specs.declared.table.Look.{Look}
 use Rattle.cm_tables.specs.declared.table.Look.TheVariants as looks
-use Rattle.cm_tables.specs.Common.{common}
-use Rattle.cm_tables.specs.Look.{IsWithin, found_at, has_text, look}
+use Rattle.cm_tables.specs.Look.{IsWithin, found_at, look}
 use Rattle.cm_tables.specs.Order.{is_keyword, is_keyword_byte, table_fault}
-use Rattle.cm_tables.proofs.FoundLemmas.{completed_is_exact, found_begins}
-use Rattle.cm_tables.proofs.WithinLemmas.{look-within}
 use Rattle.cm_fields.specs.declared.code.Code.{Code}
 use Rattle.cm_fields.specs.declared.code.Code.TheVariants.{NeedColon, NotSwitch}
 use Rattle.cm_fields.specs.declared.trial.Try.TheVariants.{Accept, Refuse, More}
@@ -24,9 +22,13 @@ use Rattle.cm_fields.specs.declared.value.Value.TheVariants.{Key, Switch}
 use Rattle.cm_fields.specs.BeforeField.{BeginsOther}
 use Rattle.cm_blocks.specs.Keyword.{after_slash, code_at, entry_position, has_colon, key, key_value, named_switch, switch}
 use Rattle.cm_blocks.specs.Trial.{entry_next}
-use Rattle.cm_recognise.specs.declared.outcome.Outcome.TheVariants.{Nothing, Part, Whole}
+use Rattle.cm_recognise.specs.declared.outcome.Outcome.TheVariants.{Nothing, Whole}
 use Rattle.cm_recognise.specs.Candidates.{missing}
-use Rattle.cm_recognise.specs.Outcome.{entry_outcome, keyword_outcome, switch_outcome, text_at}
+use Rattle.cm_recognise.specs.Capitals.{in_case}
+use Rattle.cm_recognise.specs.Outcome.{entry_outcome, keyword_outcome, look_outcome, shared_outcome, switch_outcome, text_at}
+use Rattle.cm_recognise.specs.Remaining.{common_among, has_text_among, look_among}
+use Rattle.cm_recognise.proofs.Capitals.{case_length, case_same, case_words}
+use Rattle.cm_recognise.proofs.Choices.{Finds, among_finds}
 use Rattle.cm_recognise.proofs.Plains.{run_wants, run_whole, space_no_word}
 use Rattle.cm_recognise.proofs.Texts.{AreKeywords, keywords_of}
 
@@ -37,7 +39,7 @@ pub record Completes (switch : Bool) (table : List Entry) (atom : List ℕ) (fou
   pub entry : Entry
   pub found_is : found_at found ≡ Some position
   pub entry_is : slice_get table position ≡ Some entry
-  pub bytes_is : drop (length atom) entry.text ≡ bytes
+  pub bytes_is : in_case atom (drop (length atom) entry.text) ≡ bytes
   pub next_is : entry_next table position ≡ next
   pub plain : (switch && has_colon table position) ≡ false
 
@@ -61,32 +63,35 @@ entry_completes switch table atom found position bytes next found_is below is = 
     by false plain is =
         let text : text_at table position ≡ read.0.text =
         ap (λ (found : Option Entry). option_map_or (λ (entry : Entry). entry.text) found []) read.1 in
-        let rest : missing (text_at table position) atom ≡ bytes = cc in
+        let rest : in_case atom (missing (text_at table position) atom) ≡ bytes = cc in
         let leads : entry_next table position ≡ next = cc in
         record {
           position = position;
           entry = read.0;
           found_is = found_is;
           entry_is = read.1;
-          bytes_is = sym (ap (λ (text : List ℕ). drop (length atom) text) text) ∙ rest;
+          bytes_is = sym (ap (λ (text : List ℕ). in_case atom (drop (length atom) text)) text) ∙ rest;
           next_is = leads;
           plain = plain;
         }
 
-pub keyword_completes : (switch : Bool) (table : List Entry) (atom : List ℕ) (found : Look) (bytes : List ℕ) (next : ℕ)
-    → IsWithin found (length table) → keyword_outcome switch table atom found ≡ Whole bytes next
+look_completes : (switch : Bool) (table : List Entry) (atom shared : List ℕ) (has : Bool) (found : Look) (bytes : List ℕ) (next : ℕ)
+    → IsWithin found (length table) → look_outcome switch table atom (shared_outcome has atom shared) found ≡ Whole bytes next
     → Completes switch table atom found bytes next
-keyword_completes switch table atom looks.None bytes next within is = cc
-keyword_completes switch table atom looks.Ambiguous bytes next within is = by (has_text table atom) is
-  where
-    by : (test : Bool) → (if test then Nothing else Part (common table atom)) ≡ Whole bytes next
-        → Completes switch table atom looks.Ambiguous bytes next
-    by true is = cc
-    by false is = cc
-keyword_completes switch table atom (looks.Abbrev position) bytes next within is =
+look_completes switch table atom shared has looks.None bytes next within is = cc
+look_completes switch table atom shared true looks.Ambiguous bytes next within is = cc
+look_completes switch table atom shared false looks.Ambiguous bytes next within is = cc
+look_completes switch table atom shared has (looks.Abbrev position) bytes next within is =
     entry_completes switch table atom (looks.Abbrev position) position bytes next refl within is
-keyword_completes switch table atom (looks.Exact position) bytes next within is =
+look_completes switch table atom shared has (looks.Exact position) bytes next within is =
     entry_completes switch table atom (looks.Exact position) position bytes next refl within is
+
+pub keyword_completes : (switch : Bool) (left : ℕ × Entry → Bool) (table : List Entry) (atom bytes : List ℕ) (next : ℕ)
+    → table_fault table ≡ None → keyword_outcome switch left table atom ≡ Whole bytes next
+    → Completes switch table atom (look_among left table atom) bytes next
+keyword_completes switch left table atom bytes next none is =
+    look_completes switch table atom (common_among left table atom) (has_text_among left table atom) (look_among left table atom)
+    bytes next (among_finds left table atom none).within is
 
 keyword_at : (table : List Entry) (position : ℕ) (entry : Entry) → AreKeywords table → slice_get table position ≡ Some entry
     → is_keyword entry.text ≡ true
@@ -95,43 +100,43 @@ keyword_at (first ∷ more) zero entry all is =
     let same : first ≡ entry = cc in subst (λ (entry : Entry). is_keyword entry.text ≡ true) same all.0
 keyword_at (first ∷ more) (suc position) entry all is = keyword_at more position entry all.1 is
 
-word_of_keyword : (byte : ℕ) → is_keyword_byte byte ≡ true → is_word byte ≡ true
-unfolding is_word
-word_of_keyword byte is = grind (arith, nat_tests)
-
 -- the whole keyword is a run that means its entry
 record IsEntry (table : List Entry) (whole : List ℕ) (position : ℕ) : Type 0 where
   words : prefix_len is_word whole ≡ length whole
   means : entry_position table whole ≡ Ok position
 
-whole_is_entry : (switch : Bool) (table : List Entry) (atom bytes : List ℕ) (next : ℕ) → table_fault table ≡ None
-    → prefix_len is_word atom ≡ length atom → (c : Completes switch table atom (look table atom) bytes next)
+whole_is_entry : (switch : Bool) (table : List Entry) (atom bytes : List ℕ) (found : Look) (next : ℕ) → table_fault table ≡ None
+    → Finds table atom found → prefix_len is_word atom ≡ length atom → (c : Completes switch table atom found bytes next)
     → IsEntry table (atom ++ bytes) c.position
 unfolding entry_position
-whole_is_entry switch table atom bytes next none words c =
+whole_is_entry switch table atom bytes found next none finds words c =
     let text = keyword_at table c.position c.entry (keywords_of table none) c.entry_is in
     let parts = and_parts (nat_lt 0 (length c.entry.text)) (list_all is_keyword_byte c.entry.text) text in
     let some = parts.0 in
-    let begins = found_begins table atom c.position c.entry none c.found_is c.entry_is in
+    let begins = finds.begins c.position c.entry c.found_is c.entry_is in
+    let missed = drop (length atom) c.entry.text in
+    let tail : length bytes ≡ length missed = ap length (sym c.bytes_is) ∙ case_length atom missed in
     let size : length (atom ++ bytes) ≡ length c.entry.text =
-    ap (λ (rest : List ℕ). length (atom ++ rest)) (sym c.bytes_is) ∙ length-whole c.entry.text atom begins in
+    length-append atom bytes ∙ ap (λ (n : ℕ). length atom + n) tail ∙ sym (length-append atom missed)
+    ∙ length-whole c.entry.text atom begins in
     let rest : prefix_len is_word bytes ≡ length bytes =
     subst (λ (rest : List ℕ). prefix_len is_word rest ≡ length rest) c.bytes_is
-    (prefix_len_drop is_keyword_byte is_word word_of_keyword (length atom) c.entry.text parts.1) in
+    (case_words atom c.entry.text (length atom) parts.1) in
+    let same : equals missed bytes ≡ true =
+    subst (λ (rest : List ℕ). equals missed rest ≡ true) c.bytes_is (case_same atom missed) in
     let exact : look table (atom ++ bytes) ≡ looks.Exact c.position =
-    ap (λ (rest : List ℕ). look table (atom ++ rest)) (sym c.bytes_is)
-    ∙ completed_is_exact table atom c.position c.entry none c.found_is c.entry_is in
+    finds.whole c.position c.entry c.found_is c.entry_is bytes same in
     let test : (length (atom ++ bytes) == 0) ≡ false = grind (arith, nat_tests) in
     record { words = prefix_len_both is_word atom bytes words rest; means = rw (test, exact) }
 
 -- a keyword that wants more, completed
-pub key_takes : (table : List Entry) (atom bytes more : List ℕ) (at next : ℕ) → table_fault table ≡ None
-    → key table atom at ≡ More → (c : Completes false table atom (look table atom) bytes next)
+pub key_takes : (left : ℕ × Entry → Bool) (table : List Entry) (atom bytes more : List ℕ) (at next : ℕ) → table_fault table ≡ None
+    → key table atom at ≡ More → (c : Completes false table atom (look_among left table atom) bytes next)
     → key table (atom ++ (bytes ++ 32 ∷ more)) at
     ≡ Accept (Key c.position (code_at table c.position)) (length (atom ++ bytes) + 1) (at + length (atom ++ bytes))
-key_takes table atom bytes more at next none wants c =
+key_takes left table atom bytes more at next none wants c =
     let words = run_wants is_word (λ run. key_value table (entry_position table run)) atom at wants in
-    let entry = whole_is_entry false table atom bytes next none words c in
+    let entry = whole_is_entry false table atom bytes _ next none (among_finds left table atom none) words c in
     let means = entry.means in
     let taken = run_whole is_word (λ run. key_value table (entry_position table run)) (atom ++ bytes) 32 more at entry.words space_no_word in
     let text : atom ++ (bytes ++ 32 ∷ more) ≡ (atom ++ bytes) ++ 32 ∷ more = sym (append_assoc atom bytes (32 ∷ more)) in
@@ -175,24 +180,24 @@ slash_takes table whole more at position entry plain =
     rw (run, other, same, means, plain)
 
 -- a switch that wants more, completed
-pub switch_takes : (table : List Entry) (atom bytes more : List ℕ) (at next : ℕ) → table_fault table ≡ None
-    → switch table atom at ≡ More → switch_outcome table atom ≡ Whole bytes next
+pub switch_takes : (left : ℕ × Entry → Bool) (table : List Entry) (atom bytes more : List ℕ) (at next : ℕ) → table_fault table ≡ None
+    → switch table atom at ≡ More → switch_outcome left table atom ≡ Whole bytes next
     → (position : ℕ) × (entry_next table position ≡ next)
     × (switch table (atom ++ (bytes ++ 32 ∷ more)) at
     ≡ Accept (Switch position (code_at table position)) (length (atom ++ bytes) + 1) (at + length (atom ++ bytes)))
-switch_takes table [] bytes more at next none wants is = cc
-switch_takes table (byte ∷ atom) bytes more at next none wants is = by (byte == 47) refl wants is
+switch_takes left table [] bytes more at next none wants is = cc
+switch_takes left table (byte ∷ atom) bytes more at next none wants is = by (byte == 47) refl wants is
   where
     by : (test : Bool) → (byte == 47) ≡ test → (if test then after_slash table atom at else Refuse NotSwitch 1) ≡ More
-        → (if test then keyword_outcome true table atom (look table atom) else Nothing) ≡ Whole bytes next
+        → (if test then keyword_outcome true left table atom else Nothing) ≡ Whole bytes next
         → (position : ℕ) × (entry_next table position ≡ next)
         × ((if byte == 47 then after_slash table (atom ++ (bytes ++ 32 ∷ more)) at else Refuse NotSwitch 1)
         ≡ Accept (Switch position (code_at table position)) (length (byte ∷ atom ++ bytes) + 1) (at + length (byte ∷ atom ++ bytes)))
     by false slash wants is = cc
     by true slash wants is =
         let words = slash_wants table atom at wants in
-        let c = keyword_completes true table atom (look table atom) bytes next (look-within table atom none) is in
-        let entry = whole_is_entry true table atom bytes next none words c in
+        let c = keyword_completes true left table atom bytes next none is in
+        let entry = whole_is_entry true table atom bytes _ next none (among_finds left table atom none) words c in
         let taken = slash_takes table (atom ++ bytes) more at c.position entry c.plain in
         let text : atom ++ (bytes ++ 32 ∷ more) ≡ (atom ++ bytes) ++ 32 ∷ more = sym (append_assoc atom bytes (32 ∷ more)) in
         let size : length (byte ∷ atom ++ bytes) ≡ length (atom ++ bytes) + 1 = omega arith in
@@ -213,9 +218,9 @@ text_begins raw (byte ∷ text) more is =
     keyword_begins raw byte (text ++ more) (and_parts (is_keyword_byte byte) (list_all is_keyword_byte text) parts.1).0
 
 -- so does what completes an atom of which nothing is typed
-pub key_begins : (raw : Bool) (table : List Entry) (bytes more : List ℕ) (next : ℕ) → table_fault table ≡ None
-    → keyword_outcome false table [] (look table []) ≡ Whole bytes next → BeginsOther raw (bytes ++ more)
-key_begins raw table bytes more next none is =
-    let c = keyword_completes false table [] (look table []) bytes next (look-within table [] none) is in
+pub key_begins : (raw : Bool) (left : ℕ × Entry → Bool) (table : List Entry) (bytes more : List ℕ) (next : ℕ) → table_fault table ≡ None
+    → keyword_outcome false left table [] ≡ Whole bytes next → BeginsOther raw (bytes ++ more)
+key_begins raw left table bytes more next none is =
+    let c = keyword_completes false left table [] bytes next none is in
     subst (λ (text : List ℕ). BeginsOther raw (text ++ more)) c.bytes_is
     (text_begins raw c.entry.text more (keyword_at table c.position c.entry (keywords_of table none) c.entry_is))

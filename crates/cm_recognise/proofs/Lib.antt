@@ -1,4 +1,6 @@
 pub mod Candidates
+pub mod Capitals
+pub mod Choices
 pub mod Completions
 pub mod Continuations
 pub mod Directories
@@ -11,6 +13,7 @@ pub mod LetterCase
 pub mod Lines
 pub mod Numerals
 pub mod Plains
+pub mod Ranges
 pub mod Rows
 pub mod ShownBytes
 pub mod Sources

@@ -22,11 +22,11 @@ use Rattle.cm_fields.specs.declared.value.Spec.{Spec}
 use Rattle.cm_fields.specs.declared.value.Value.{Value}
 use Rattle.cm_fields.specs.declared.value.Value.TheVariants as values
 use Rattle.cm_fields.specs.Mark.{comma, confirm}
-use Rattle.cm_fields.specs.Quoted.{quoted}
+use Rattle.cm_fields.specs.Quoted.{long_quoted, quoted}
 use Rattle.cm_fields.specs.Run.{number, number_of, run_field, run_of, word, word_of}
 use Rattle.cm_fields.specs.Text.{is_inside, text_field, text_of}
 use Rattle.cm_fields.specs.Try.{by_run, said, span}
-use Rattle.cm_fields.proofs.QuotedTexts.{IsQuoted, QuotedAt, quoted_ends}
+use Rattle.cm_fields.proofs.QuotedTexts.{IsQuoted, QuotedAt, long_quoted_ends, quoted_ends}
 use Rattle.cm_files.specs.declared.flags.Flags.{Flags}
 use Rattle.cm_files.specs.declared.spec.SpecFault.{SpecFault}
 use Rattle.cm_files.specs.Catalogue.{Catalogue}
@@ -36,6 +36,8 @@ use Rattle.cm_files.specs.Spec.{read_spec}
 use Rattle.cm_hooks.specs.declared.answer.Answer.{Answer}
 use Rattle.cm_hooks.specs.declared.answer.Answer.TheVariants.{Yes, No, NoBecause}
 use Rattle.cm_hooks.specs.Field.{hook, hook_of, judged}
+use Rattle.cm_hooks.specs.FieldBytes.{FieldBytes, not_graphic}
+use Rattle.cm_hooks.specs.Meanings.{Meanings}
 
 -- a value that neither an entry of a table nor the end of the line gives
 abbrev pub IsOwn : Value → Type 0
@@ -135,9 +137,9 @@ pub space_no_word : is_word 32 ≡ false
 unfolding is_word
 space_no_word = refl
 
-pub space_no_name : is_name 32 ≡ false
-unfolding is_name is_word
-space_no_name = refl
+-- a space is no byte of a hook's field
+pub space_outside : (bytes : FieldBytes) → bytes.test 32 ≡ false
+space_outside bytes = not_graphic bytes 32 refl
 
 pub number_ends : (rest : List ℕ) (at : ℕ) → number rest at ≡ More → EndsAt (at + length rest) (number (rest ++ 32 ∷ []) at)
 number_ends rest at is = run_ends is_word number_of rest at space_no_word (number_own rest) is
@@ -148,9 +150,11 @@ word_ends rest at is = run_ends is_word (word_of at) rest at space_no_word (word
 pub date_ends : (rest : List ℕ) (at : ℕ) → date rest at ≡ More → EndsAt (at + length rest) (date (rest ++ 32 ∷ []) at)
 date_ends rest at is = run_ends is_word date_of rest at space_no_word (date_own rest) is
 
-pub hook_ends : (verdict : ℕ → List ℕ → Answer) (id : ℕ) (rest : List ℕ) (at : ℕ) → hook verdict id rest at ≡ More
-    → EndsAt (at + length rest) (hook verdict id (rest ++ 32 ∷ []) at)
-hook_ends verdict id rest at is = run_ends is_name (hook_of verdict id) rest at space_no_name (hook_own verdict id rest) is
+pub hook_ends : (meanings : Meanings) (id : ℕ) (rest : List ℕ) (at : ℕ) → hook meanings id rest at ≡ More
+    → EndsAt (at + length rest) (hook meanings id (rest ++ 32 ∷ []) at)
+hook_ends meanings id rest at is =
+    run_ends (meanings.bytes id).test (hook_of meanings.verdict id) rest at (space_outside (meanings.bytes id))
+    (hook_own meanings.verdict id rest) is
 
 -- a space does not end a run that may have spaces
 run_goes_on : (is_part : ℕ → Bool) (decide : List ℕ → Result Value Code) (rest : List ℕ) (at : ℕ) → is_part 32 ≡ true
@@ -213,10 +217,15 @@ quoted_own : (value : Value) → IsQuoted value → IsOwn value
 quoted_own (values.Quoted part) is = tt
 quoted_own value is = absurd is
 
+quote_ends : (place : ℕ) (answer : Try) → QuotedAt place answer → EndsAt place answer
+quote_ends place (Accept value looked end) ends = (ends.0, quoted_own value ends.1)
+quote_ends place (Refuse code looked) ends = tt
+quote_ends place More ends = tt
+
 pub quoted_closes : (rest : List ℕ) (at : ℕ) → quoted rest at ≡ More → EndsAt (at + length rest) (quoted (rest ++ 32 ∷ []) at)
-quoted_closes rest at is = by (quoted (rest ++ 32 ∷ []) at) (quoted_ends rest at is)
-  where
-    by : (answer : Try) → QuotedAt (at + length rest) answer → EndsAt (at + length rest) answer
-    by (Accept value looked end) ends = (ends.0, quoted_own value ends.1)
-    by (Refuse code looked) ends = tt
-    by More ends = tt
+quoted_closes rest at is = quote_ends (at + length rest) (quoted (rest ++ 32 ∷ []) at) (quoted_ends rest at is)
+
+pub long_quoted_closes : (rest : List ℕ) (at : ℕ) → long_quoted rest at ≡ More
+    → EndsAt (at + length rest) (long_quoted (rest ++ 32 ∷ []) at)
+long_quoted_closes rest at is =
+    quote_ends (at + length rest) (long_quoted (rest ++ 32 ∷ []) at) (long_quoted_ends rest at is)

@@ -1,27 +1,26 @@
 -- What goes into a line is bytes that are shown as they are.
-use Rattle.std.proofs.Common.{◌≡◌, ℕ, zero, suc, ◌+◌, ◌&&◌, Bool, true, false, ◌==◌, if◌then◌else◌, nat_lt, List, [], ◌∷◌, ◌++◌, length, drop, take, map, filter, Option, Some, None, slice_get, unwrap_or, refl, ap, subst, arith, ◌∙◌}
-use Rattle.std.specs.List.{AllByRecursion, enumerate_from, flat_map, list_all, reduce}
+use Rattle.std.proofs.Common.{◌≡◌, ℕ, zero, suc, ◌+◌, Bool, true, false, ◌==◌, if◌then◌else◌, nat_lt, List, [], ◌∷◌, ◌++◌, length, drop, take, map, filter, Option, Some, None, slice_get, unwrap_or, refl, ap, arith, ◌∙◌}
+use Rattle.std.specs.List.{AllByRecursion, enumerate_from, flat_map, fold, list_all, reduce}
 use Rattle.std.specs.Option.{option_map_or}
 use Rattle.std.proofs.lemmas.Bool.{and_parts}
 use Rattle.std.proofs.lemmas.Bool.Decides.{nat_tests}
 use Rattle.cm_lists.proofs.Bools.{cond_each}
 use Rattle.cm_lists.proofs.Quantifiers.{AllByRecursion-append, AllByRecursion-drop}
 use Rattle.cm_text.specs.Bytes.{is_line_byte, is_name, is_shown, is_shown_byte, is_text, is_word}
-use Rattle.cm_text.specs.Case.{begins_with}
 use Rattle.cm_text.specs.ScreenBytes.{join_shown, shown_byte}
 use Rattle.cm_text.specs.declared.text.TheConstants.{JOIN}
 use Rattle.cm_text.proofs.LineBytes.{texts_in_line}
 use Rattle.cm_tables.specs.declared.entry.Entry.{Entry}
-use Rattle.cm_tables.specs.Common.{AllBeginWith, common, rests, shared}
-use Rattle.cm_tables.specs.Look.{is_recognised}
+use Rattle.cm_tables.specs.Common.{shared_letters}
+use Rattle.cm_tables.specs.Look.{candidates}
 use Rattle.cm_tables.specs.Order.{is_keyword, is_keyword_byte, table_fault, texts_fault}
 use Rattle.cm_tables.proofs.FoundLemmas.{keyword_of, no-texts_fault}
-use Rattle.cm_tables.proofs.ShareLemmas.{common_is_shared}
 use Rattle.cm_tables.proofs.WithinLemmas.{both-none}
 use Rattle.cm_blocks.specs.Grammar.{Graph}
 use Rattle.cm_blocks.specs.Trial.{table_of}
 use Rattle.cm_blocks.specs.Well.{AreTables}
 use Rattle.cm_recognise.specs.Outcome.{text_at}
+use Rattle.cm_recognise.specs.Remaining.{common_among, rests_among}
 
 -- bytes of a line
 abbrev pub AreLineBytes : List ℕ → Type 0
@@ -126,27 +125,37 @@ text_at_shown [] position all = tt
 text_at_shown (entry ∷ more) zero all = keyword_shown entry.text all.0
 text_at_shown (entry ∷ more) (suc position) all = text_at_shown more position all.1
 
--- what several entries share is bytes of one of them
-rests_shown : (entries : List Entry) (position : ℕ) (atom : List ℕ) → AreKeywords entries
-    → AllByRecursion AreShown (map (λ (e : ℕ × Entry). drop (length atom) e.1.text)
-    (filter (λ (e : ℕ × Entry). is_recognised e.1.flag && begins_with e.1.text atom) (enumerate_from position entries)))
-rests_shown [] position atom all = tt
-rests_shown (entry ∷ more) position atom all =
+-- what is after an atom in entries
+rests_shown : (test : ℕ × Entry → Bool) (entries : List Entry) (position : ℕ) (atom : List ℕ) → AreKeywords entries
+    → AllByRecursion AreShown (map (λ (e : ℕ × Entry). drop (length atom) e.1.text) (filter test (enumerate_from position entries)))
+rests_shown test [] position atom all = tt
+rests_shown test (entry ∷ more) position atom all =
     cond_each (λ (found : List (ℕ × Entry)). AllByRecursion AreShown (map (λ (e : ℕ × Entry). drop (length atom) e.1.text) found))
-    (is_recognised entry.flag && begins_with entry.text atom) _ _
-    (shown_drop (length atom) entry.text (keyword_shown entry.text all.0), rests_shown more (position + 1) atom all.1)
-    (rests_shown more (position + 1) atom all.1)
+    (test (position, entry)) _ _
+    (shown_drop (length atom) entry.text (keyword_shown entry.text all.0), rests_shown test more (position + 1) atom all.1)
+    (rests_shown test more (position + 1) atom all.1)
 
-pub common_shown : (table : List Entry) (atom : List ℕ) → AreKeywords table → AreShown (common table atom)
-unfolding common
-common_shown table atom all = by (rests table atom) refl (rests_shown table 0 atom all) (common_is_shared table atom)
+left_shown : (left : ℕ × Entry → Bool) (atom : List ℕ) (xs : List (ℕ × Entry))
+    → AllByRecursion AreShown (map (λ (e : ℕ × Entry). drop (length atom) e.1.text) xs)
+    → AllByRecursion AreShown (map (λ (e : ℕ × Entry). drop (length atom) e.1.text) (filter left xs))
+left_shown left atom [] all = tt
+left_shown left atom (e ∷ more) all =
+    cond_each (λ (found : List (ℕ × Entry)). AllByRecursion AreShown (map (λ (e : ℕ × Entry). drop (length atom) e.1.text) found))
+    (left e) _ _ (all.0, left_shown left atom more all.1) (left_shown left atom more all.1)
+
+fold_shown : (text : List ℕ) (texts : List (List ℕ)) → AreShown text → AreShown (fold shared_letters text texts)
+fold_shown text [] shown = shown
+fold_shown text (other ∷ texts) shown = fold_shown (shared_letters text other) texts (shown_take _ text shown)
+
+-- what several of them share is bytes of one of them
+pub among_shown : (left : ℕ × Entry → Bool) (table : List Entry) (atom : List ℕ) → AreKeywords table
+    → AreShown (common_among left table atom)
+among_shown left table atom all =
+    by (rests_among left table atom) (left_shown left atom (candidates table atom) (rests_shown _ table 0 atom all))
   where
-    by : (texts : List (List ℕ)) → rests table atom ≡ texts → AllByRecursion AreShown texts
-        → AllBeginWith texts (common table atom) → AreShown (common table atom)
-    by [] is all begin =
-        let none : common table atom ≡ [] = ap (λ (texts : List (List ℕ)). unwrap_or (reduce shared texts) []) is in
-        rw none tt
-    by (text ∷ texts) is all begin = subst AreShown begin.0 (shown_take (length (common table atom)) text all.0)
+    by : (texts : List (List ℕ)) → AllByRecursion AreShown texts → AreShown (unwrap_or (reduce shared_letters texts) [])
+    by [] all = tt
+    by (text ∷ texts) all = fold_shown text texts all.0
 
 -- a table that a block names has no fault, nor has one that is not there
 pub table_none : (graph : Graph) (number : ℕ) → AreTables graph.tables → table_fault (table_of graph number) ≡ None

@@ -8,6 +8,7 @@ use Rattle.cm_blocks.specs.declared.function.Function.{Function}
 use Rattle.cm_blocks.specs.declared.function.Function.TheVariants.{Directory, InFile, AnyFile, Noise}
 use Rattle.cm_blocks.specs.declared.node.Block.{Block}
 use Rattle.cm_blocks.specs.declared.node.Node.{Node}
+use Rattle.cm_blocks.specs.FieldView.{FieldView}
 use Rattle.cm_blocks.specs.Grammar.{Graph}
 use Rattle.cm_blocks.specs.Setting.{Setting}
 use Rattle.cm_recognise.specs.declared.insertion.Insertion.{Insertion}
@@ -56,14 +57,15 @@ is_asked modes.Part Directory = true
 is_asked modes.Part function = false
 
 -- what one block puts in
-abbrev pub block_put : Setting → Mode → List ℕ → ℕ → Block → Option Insertion
-block_put s mode atom at block =
-    if is_asked mode block.function then put_in s.graph (outcome s mode block atom at) else None
+abbrev pub block_put : Setting → List FieldView → Mode → List ℕ → ℕ → Block → Option Insertion
+block_put s fields mode atom at block =
+    if is_asked mode block.function then put_in s.graph (outcome s fields mode block atom at) else None
 
 -- the first of these blocks that puts anything in
-abbrev pub first_put : Setting → Mode → List ℕ → ℕ → List Block → Option Insertion
-first_put s mode atom at [] = None
-first_put s mode atom at (block ∷ more) = or_put (block_put s mode atom at block) (first_put s mode atom at more)
+abbrev pub first_put : Setting → List FieldView → Mode → List ℕ → ℕ → List Block → Option Insertion
+first_put s fields mode atom at [] = None
+first_put s fields mode atom at (block ∷ more) =
+    or_put (block_put s fields mode atom at block) (first_put s fields mode atom at more)
 
 -- where nothing is typed the default of the node, and a space
 abbrev pub default_put : List ℕ → Option (List ℕ) → Option Insertion
@@ -72,10 +74,10 @@ default_put atom (Some text) =
     if length atom == 0 then Some (record { bytes = text ++ 32 ∷ []; bell = false }) else None
 
 -- ESC takes the default, and else asks the blocks from this one on, as control-F does
-abbrev pub asked : Setting → Mode → Node → ℕ → List ℕ → ℕ → Option Insertion
-asked s modes.Escape node block atom at =
-    or_put (default_put atom node.default) (first_put s modes.Escape atom at (drop block node.chain))
-asked s modes.Part node block atom at = first_put s modes.Part atom at (drop block node.chain)
+abbrev pub asked : Setting → List FieldView → Mode → Node → ℕ → List ℕ → ℕ → Option Insertion
+asked s fields modes.Escape node block atom at =
+    or_put (default_put atom node.default) (first_put s fields modes.Escape atom at (drop block node.chain))
+asked s fields modes.Part node block atom at = first_put s fields modes.Part atom at (drop block node.chain)
 
 -- what does not fit into a line of so many bytes is not put in
 abbrev pub fitted : ℕ → Option Insertion → Insertion
@@ -83,16 +85,17 @@ fitted size None = bell_only
 fitted size (Some insertion) = if nat_le (size + length insertion.bytes) LINE_LIMIT then insertion else bell_only
 
 -- at this place of the line the blocks of a node wait from this one on
-abbrev pub at_block : Setting → Mode → List ℕ → ℕ → Option ℕ → Option Node → Option Insertion
-at_block s mode line at None found = None
-at_block s mode line at (Some block) None = None
-at_block s mode line at (Some block) (Some node) = asked s mode node block (drop at line) at
+abbrev pub at_block : Setting → List FieldView → Mode → List ℕ → ℕ → Option ℕ → Option Node → Option Insertion
+at_block s fields mode line at None found = None
+at_block s fields mode line at (Some block) None = None
+at_block s fields mode line at (Some block) (Some node) = asked s fields mode node block (drop at line) at
 
--- [completion] what is put into a line with room whose parse ends so; a place that is none of the line gives nothing
-unfoldable pub insertion : Setting → Ending → List ℕ → Mode → Insertion
-insertion s (ending.Open place) line mode =
+-- [completion] what is put into a line with room whose parse has these fields and ends so; a place that is none of the
+-- line gives nothing
+unfoldable pub insertion : Setting → List FieldView → Ending → List ℕ → Mode → Insertion
+insertion s fields (ending.Open place) line mode =
     if nat_lt (length line) LINE_LIMIT && nat_le place.at (length line)
-    then fitted (length line) (at_block s mode line place.at place.block (slice_get s.graph.nodes place.node))
+    then fitted (length line) (at_block s fields mode line place.at place.block (slice_get s.graph.nodes place.node))
     else bell_only
-insertion s ending.Done line mode = bell_only
-insertion s (ending.Fault fault) line mode = bell_only
+insertion s fields ending.Done line mode = bell_only
+insertion s fields (ending.Fault fault) line mode = bell_only

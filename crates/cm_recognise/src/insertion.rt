@@ -4,6 +4,7 @@ ghost use Rattle.std.specs.List.{AllByRecursion};
 ghost use Rattle.cm_text.specs.Bytes.{is_text};
 ghost use Rattle.cm_text.specs.Text.{IsLine};
 ghost use Rattle.cm_files.specs.Catalogue.{IsCatalogue};
+ghost use Rattle.cm_blocks.specs.Once.{fields_at};
 ghost use Rattle.cm_blocks.specs.Setting.{setting};
 ghost use Rattle.cm_blocks.specs.Well.{IsWell, IsWellBlock};
 ghost use Rattle.cm_recognise.specs.Insertion.{asked, at_block, after, block_put, default_put, first_put, fitted, guide_after, insertion, is_asked, put_in, bell_only};
@@ -11,7 +12,7 @@ ghost use Rattle.cm_recognise.specs.Outcome.{IsShort};
 
 use crate::Bytes;
 use crate::outcome::{Outcome, TAIL_LIMIT, guide, outcome_of};
-use cm_blocks::{Block, Ending, Function, Grammar, Node, Open};
+use cm_blocks::{Block, Ending, Field, Function, Grammar, Node, Open};
 use cm_files::Names;
 use cm_hooks::Rules;
 use cm_text::LINE_LIMIT;
@@ -125,6 +126,7 @@ fn is_asked(mode: Mode, function: &Function) -> bool
 // What one block puts in.
 fn block_put<N: Names, R: Rules>(
     grammar: &Grammar,
+    fields: &[Option<Field>],
     block: &Block,
     line: &[u8],
     at: usize,
@@ -135,22 +137,22 @@ fn block_put<N: Names, R: Rules>(
     requires well { IsWellBlock grammar.now block.now }
     requires short { length line.now < LINE_LIMIT }
     requires place { at ≤ length line.now }
-    ensures { result ≡ block_put (setting grammar.now (N.catalogue names.now) (R.meanings rules.now)) mode
-        (drop at line.now) at
-        block.now }
+    ensures { result ≡ block_put (setting grammar.now (N.catalogue names.now) (R.meanings rules.now))
+        (fields_at fields.now) mode (drop at line.now) at block.now }
 {
     if !is_asked(mode, &block.function) {
         return None;
     }
     put_in(
         grammar,
-        outcome_of(grammar, block, line, at, names, rules, mode),
+        outcome_of(grammar, fields, block, line, at, names, rules, mode),
     )
 }
 
 // The first of these blocks that puts anything in.
 fn first_put<N: Names, R: Rules>(
     grammar: &Grammar,
+    fields: &[Option<Field>],
     blocks: &[Block],
     line: &[u8],
     at: usize,
@@ -161,12 +163,11 @@ fn first_put<N: Names, R: Rules>(
     requires well { All (IsWellBlock grammar.now) blocks.now }
     requires short { length line.now < LINE_LIMIT }
     requires place { at ≤ length line.now }
-    ensures { result ≡ first_put (setting grammar.now (N.catalogue names.now) (R.meanings rules.now)) mode
-        (drop at line.now) at
-        blocks.now }
+    ensures { result ≡ first_put (setting grammar.now (N.catalogue names.now) (R.meanings rules.now))
+        (fields_at fields.now) mode (drop at line.now) at blocks.now }
 {
     for block in blocks {
-        let put = block_put(grammar, block, line, at, names, rules, mode);
+        let put = block_put(grammar, fields, block, line, at, names, rules, mode);
         if put.is_some() {
             return put;
         }
@@ -195,6 +196,7 @@ fn default_put(atom: &[u8], node: &Node) -> Option<Insertion>
 // What is put in where the blocks of a node wait from this one on.
 fn asked<N: Names, R: Rules>(
     grammar: &Grammar,
+    fields: &[Option<Field>],
     node: &Node,
     block: u8,
     line: &[u8],
@@ -206,19 +208,28 @@ fn asked<N: Names, R: Rules>(
     requires well { IsWell grammar.now node.now }
     requires short { length line.now < LINE_LIMIT }
     requires place { at ≤ length line.now }
-    ensures { result ≡ asked (setting grammar.now (N.catalogue names.now) (R.meanings rules.now)) mode node.now block
-        (drop at line.now) at }
+    ensures { result ≡ asked (setting grammar.now (N.catalogue names.now) (R.meanings rules.now))
+        (fields_at fields.now) mode node.now block (drop at line.now) at }
 {
     let chain = node.chain.as_slice();
     let blocks = &chain[usize::from(block).min(chain.len())..];
     match mode {
-        Mode::Part => first_put(grammar, blocks, line, at, names, rules, Mode::Part),
+        Mode::Part => first_put(grammar, fields, blocks, line, at, names, rules, Mode::Part),
         Mode::Escape => {
             let put = default_put(&line[at..], node);
             if put.is_some() {
                 return put;
             }
-            first_put(grammar, blocks, line, at, names, rules, Mode::Escape)
+            first_put(
+                grammar,
+                fields,
+                blocks,
+                line,
+                at,
+                names,
+                rules,
+                Mode::Escape,
+            )
         }
     }
 }
@@ -226,6 +237,7 @@ fn asked<N: Names, R: Rules>(
 // What is put in at a place of the line.
 fn at_block<N: Names, R: Rules>(
     grammar: &Grammar,
+    fields: &[Option<Field>],
     place: Open,
     line: &[u8],
     names: &N,
@@ -234,9 +246,8 @@ fn at_block<N: Names, R: Rules>(
 ) -> Option<Insertion>
     requires short { length line.now < LINE_LIMIT }
     requires place { place.at ≤ length line.now }
-    ensures { result ≡ at_block (setting grammar.now (N.catalogue names.now) (R.meanings rules.now)) mode line.now
-        place.at
-        place.block (slice_get grammar.now.nodes place.node) }
+    ensures { result ≡ at_block (setting grammar.now (N.catalogue names.now) (R.meanings rules.now))
+        (fields_at fields.now) mode line.now place.at place.block (slice_get grammar.now.nodes place.node) }
 {
     let block = place.block?;
     if place.node >= grammar.nodes() {
@@ -245,6 +256,7 @@ fn at_block<N: Names, R: Rules>(
     let node = grammar.node(place.node);
     asked(
         grammar,
+        fields,
         node,
         block,
         line,
@@ -259,6 +271,7 @@ fn at_block<N: Names, R: Rules>(
 #[tactic(auto, unfolding(crate::specs::Insertion::insertion))]
 fn inserted<N: Names, R: Rules>(
     grammar: &Grammar,
+    fields: &[Option<Field>],
     ending: Ending,
     line: &[u8],
     names: &N,
@@ -266,14 +279,14 @@ fn inserted<N: Names, R: Rules>(
     mode: Mode,
 ) -> Insertion
     requires line { length line.now ≤ LINE_LIMIT }
-    ensures { result ≡ insertion (setting grammar.now (N.catalogue names.now) (R.meanings rules.now)) ending line.now
-        mode }
+    ensures { result ≡ insertion (setting grammar.now (N.catalogue names.now) (R.meanings rules.now))
+        (fields_at fields.now) ending line.now mode }
 {
     match ending {
         Ending::Open(place) if line.len() < LINE_LIMIT && usize::from(place.at) <= line.len() => {
             fitted(
                 line.len(),
-                at_block(grammar, place, line, names, rules, mode),
+                at_block(grammar, fields, place, line, names, rules, mode),
             )
         }
         _ => bell_only(),
@@ -287,7 +300,8 @@ fn is_catalogue<N: Names>(names: &N)
     let _count = names.directories();
 }
 
-/// What ESC or control-F puts into a line whose parse ends so (COMND's recognition).
+/// What ESC or control-F puts into a line whose parse has these fields and ends so (COMND's recognition). A place that
+/// has no field says nothing.
 ///
 /// Where the line is open at a field of which nothing is typed, ESC takes the default of its node. Else the blocks that
 /// wait are asked in order, and the first that can go on counts: with bytes that are whole, after which a space
@@ -295,8 +309,12 @@ fn is_catalogue<N: Names>(names: &N)
 /// piece, as a switch up to its colon. Control-F asks the blocks that read files and directories alone, and completes
 /// a name or a type of a file up to its point. It rings, and nothing goes in, where no block can go on, where the line
 /// is not open at a block, and where the bytes do not fit.
+///
+/// An option that the line already has, of a block that takes each once, is none of the ways in which a keyword or a
+/// switch goes on.
 pub fn complete<N: Names, R: Rules>(
     grammar: &Grammar,
+    fields: &[Option<Field>],
     ending: Ending,
     line: &[u8],
     names: &N,
@@ -306,7 +324,8 @@ pub fn complete<N: Names, R: Rules>(
     requires line { IsLine line.now }
     // [completion]
     ensures value { result
-        ≡ insertion (setting grammar.now (N.catalogue names.now) (R.meanings rules.now)) ending line.now mode }
+        ≡ insertion (setting grammar.now (N.catalogue names.now) (R.meanings rules.now)) (fields_at fields.now) ending
+        line.now mode }
     // They may be typed, and with them it is a line again.
     ensures text { AllByRecursion (λ byte. is_text byte ≡ true) result.bytes }
     ensures line { IsLine (line.now ++ result.bytes) }
@@ -315,5 +334,5 @@ pub fn complete<N: Names, R: Rules>(
     grammar.has_tables();
     is_catalogue(names);
     rules.are_lawful();
-    inserted(grammar, ending, line, names, rules, mode)
+    inserted(grammar, fields, ending, line, names, rules, mode)
 }

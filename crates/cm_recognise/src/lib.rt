@@ -7,7 +7,9 @@ mod file_outcome;
 mod found;
 mod insertion;
 pub mod laws;
+mod letters;
 mod outcome;
+mod remaining;
 
 pub use bytes::Bytes;
 pub use insertion::{Insertion, Mode, complete};

@@ -1,19 +1,24 @@
 // How a field goes on that a block has begun to read.
 ghost use Rattle.std.specs.Prelude.{◌≡◌, ◌≤◌, ◌<◌, ◌+◌, ◌==◌, ◌&&◌, [], ◌∷◌, ◌++◌, if◌then◌else◌, drop, length, true};
 ghost use Rattle.cm_tables.specs.Common.{common};
-ghost use Rattle.cm_tables.specs.Look.{has_text, look};
+ghost use Rattle.cm_tables.specs.Look.{IsWithin, has_text, look};
 ghost use Rattle.cm_blocks.specs.Fault.{has_table};
 ghost use Rattle.cm_blocks.specs.Keyword.{has_colon};
+ghost use Rattle.cm_blocks.specs.Once.{fields_at};
 ghost use Rattle.cm_blocks.specs.Setting.{setting};
 ghost use Rattle.cm_blocks.specs.Trial.{trial};
 ghost use Rattle.cm_blocks.specs.Well.{IsWellBlock};
 ghost use Rattle.cm_recognise.specs.Candidates.{missing};
-ghost use Rattle.cm_recognise.specs.Outcome.{IsShort, entry_outcome, guide, hook_outcome, keyword_outcome, outcome, phrase_outcome, plain_outcome, switch_outcome};
+ghost use Rattle.cm_recognise.specs.Capitals.{in_case};
+ghost use Rattle.cm_recognise.specs.Outcome.{IsShort, entry_outcome, guide, hook_outcome, keyword_outcome, look_outcome, outcome, phrase_outcome, plain_outcome, shared_outcome, switch_outcome};
+ghost use Rattle.cm_recognise.specs.Remaining.{remains};
 
 use crate::file_outcome::{Request, directory_outcome, file_outcome, user_outcome};
+use crate::letters::in_case;
+use crate::remaining::{common_among, has_text_among, look_among};
 use crate::{Bytes, Mode};
 use arrayvec::ArrayVec;
-use cm_blocks::{Block, Function, Grammar, try_function};
+use cm_blocks::{Block, Field, Function, Grammar, try_function};
 use cm_fields::{FileKind, Try};
 use cm_files::Names;
 use cm_hooks::{Rules, Tail};
@@ -67,7 +72,7 @@ pub(crate) fn guide(text: &Name) -> Bytes
     bytes
 }
 
-// The rest of the entry at a position, and after a switch that a value follows its colon.
+// The rest of the entry at a position, in capitals after capitals, and after a switch that a value follows its colon.
 fn entry_outcome(switch: bool, table: &Table, atom: &[u8], position: u16) -> Outcome
     requires { position < length table.now }
     ensures value { result
@@ -75,7 +80,7 @@ fn entry_outcome(switch: bool, table: &Table, atom: &[u8], position: u16) -> Out
     ensures short { IsShort TAIL_LIMIT result }
 {
     let entry = table.entry(position);
-    let mut bytes = missing(entry.text.as_bytes(), atom);
+    let mut bytes = in_case(atom, missing(entry.text.as_bytes(), atom).as_slice());
     if switch && entry.colon {
         bytes.append(b":");
         return Outcome::Piece(bytes);
@@ -96,37 +101,100 @@ fn copied(text: &[u8]) -> Bytes
 }
 
 // What several entries share, unless one of them has the atom for its text.
-fn shared_outcome(table: &Table, atom: &[u8]) -> Outcome
-    ensures value { result ≡ (if has_text table.now atom.now then Outcome.Nothing
-        else Outcome.Part (common table.now atom.now)) }
+fn shared_outcome(has: bool, atom: &[u8], shared: &[u8]) -> Outcome
+    requires { length shared.now ≤ TAIL_LIMIT }
+    ensures value { result ≡ shared_outcome has atom.now shared.now }
     ensures short { IsShort TAIL_LIMIT result }
 {
-    if table.has_text(atom) {
+    if has {
         return Outcome::Nothing;
     }
-    Outcome::Part(copied(table.common(atom).as_bytes()))
+    Outcome::Part(in_case(atom, shared))
 }
 
-// How a keyword goes on, or a switch after its slash.
-fn keyword_outcome(switch: bool, table: &Table, atom: &[u8]) -> Outcome
-    ensures value { result ≡ keyword_outcome switch table.now atom.now (look table.now atom.now) }
+// The one entry that the look-up gives, or what several share.
+fn look_outcome(switch: bool, table: &Table, atom: &[u8], several: Outcome, found: Look) -> Outcome
+    requires within { IsWithin found (length table.now) }
+    requires several { IsShort TAIL_LIMIT several }
+    ensures value { result ≡ look_outcome switch table.now atom.now several found }
     ensures short { IsShort TAIL_LIMIT result }
 {
-    match table.look(atom) {
+    match found {
         Look::None => Outcome::Nothing,
-        Look::Ambiguous => shared_outcome(table, atom),
+        Look::Ambiguous => several,
         Look::Abbrev(position) => entry_outcome(switch, table, atom, position),
         Look::Exact(position) => entry_outcome(switch, table, atom, position),
     }
 }
 
+// How a keyword goes on that may be any of its table, or a switch after its slash.
+fn whole_outcome(switch: bool, table: &Table, atom: &[u8]) -> Outcome
+    ensures value { result ≡ look_outcome switch table.now atom.now
+        (shared_outcome (has_text table.now atom.now) atom.now (common table.now atom.now)) (look table.now atom.now) }
+    ensures short { IsShort TAIL_LIMIT result }
+{
+    let several = shared_outcome(table.has_text(atom), atom, table.common(atom).as_bytes());
+    look_outcome(switch, table, atom, several, table.look(atom))
+}
+
+// How it goes on where a line has each entry once.
+fn remaining_outcome(
+    grammar: &Grammar,
+    fields: &[Option<Field>],
+    block: &Block,
+    switch: bool,
+    table: &Table,
+    atom: &[u8],
+) -> Outcome
+    ensures value { result
+        ≡ keyword_outcome switch (remains grammar.now (fields_at fields.now) block.now) table.now atom.now }
+    ensures short { IsShort TAIL_LIMIT result }
+{
+    let has = has_text_among(grammar, fields, block, table, atom);
+    let several = shared_outcome(has, atom, common_among(grammar, fields, block, table, atom));
+    look_outcome(
+        switch,
+        table,
+        atom,
+        several,
+        look_among(grammar, fields, block, table, atom),
+    )
+}
+
+// How a keyword goes on, or a switch after its slash.
+#[tactic(auto, using(crate::proofs::Choices::all_remain))]
+fn keyword_outcome(
+    grammar: &Grammar,
+    fields: &[Option<Field>],
+    block: &Block,
+    switch: bool,
+    table: &Table,
+    atom: &[u8],
+) -> Outcome
+    ensures value { result
+        ≡ keyword_outcome switch (remains grammar.now (fields_at fields.now) block.now) table.now atom.now }
+    ensures short { IsShort TAIL_LIMIT result }
+{
+    if !block.once {
+        return whole_outcome(switch, table, atom);
+    }
+    remaining_outcome(grammar, fields, block, switch, table, atom)
+}
+
 // How a switch goes on.
-fn switch_outcome(table: &Table, atom: &[u8]) -> Outcome
-    ensures value { result ≡ switch_outcome table.now atom.now }
+fn switch_outcome(
+    grammar: &Grammar,
+    fields: &[Option<Field>],
+    block: &Block,
+    table: &Table,
+    atom: &[u8],
+) -> Outcome
+    ensures value { result
+        ≡ switch_outcome (remains grammar.now (fields_at fields.now) block.now) table.now atom.now }
     ensures short { IsShort TAIL_LIMIT result }
 {
     match atom {
-        [b'/', atom @ ..] => keyword_outcome(true, table, atom),
+        [b'/', atom @ ..] => keyword_outcome(grammar, fields, block, true, table, atom),
         _ => Outcome::Nothing,
     }
 }
@@ -225,10 +293,11 @@ fn request(mode: Mode, kind: FileKind, block: &Block) -> Request
     }
 }
 
-// How the field of a block goes on of which the line from a place on is typed.
+// How the field of a block goes on, behind these fields, of which the line from a place on is typed.
 #[tactic(auto, unfolding(crate::specs::Outcome::outcome))]
 pub(crate) fn outcome_of<N: Names, R: Rules>(
     grammar: &Grammar,
+    fields: &[Option<Field>],
     block: &Block,
     line: &[u8],
     at: usize,
@@ -239,15 +308,19 @@ pub(crate) fn outcome_of<N: Names, R: Rules>(
     requires well { IsWellBlock grammar.now block.now }
     requires short { length line.now < LINE_LIMIT }
     requires place { at ≤ length line.now }
-    ensures value { result ≡ outcome (setting grammar.now (N.catalogue names.now) (R.meanings rules.now)) mode block.now
-        (drop at line.now) at }
+    ensures value { result ≡ outcome (setting grammar.now (N.catalogue names.now) (R.meanings rules.now))
+        (fields_at fields.now) mode block.now (drop at line.now) at }
     ensures short { IsShort TAIL_LIMIT result }
 {
     let atom = &line[at..];
     let next = block.next;
     match &block.function {
-        Function::Key(table) => keyword_outcome(false, grammar.table(*table), atom),
-        Function::Switch(table) => switch_outcome(grammar.table(*table), atom),
+        Function::Key(table) => {
+            keyword_outcome(grammar, fields, block, false, grammar.table(*table), atom)
+        }
+        Function::Switch(table) => {
+            switch_outcome(grammar, fields, block, grammar.table(*table), atom)
+        }
         Function::Noise(text) => phrase_outcome(guide(text).as_slice(), next, atom),
         Function::Token(text) => token_outcome(text.as_bytes(), next, atom),
         Function::User => user_outcome(names, next, atom),

@@ -11,7 +11,7 @@ pub returns-clause-line : goal.returns-clause-line
 returns-clause-line g c =
     let s = setting c.args.grammar.now (g.N.Names.catalogue c.args.names.now) (g.R.Rules.meanings c.args.rules.now) in
     subst (λ (put : Insertion). IsLine (c.args.line.now ++ put.bytes)) (sym c.inserted.ensures)
-    (line_goes_on s _ c.args.line.now _ c.has_no_fault.ensures c.is_catalogue.ensures
+    (line_goes_on s _ _ c.args.line.now _ c.has_no_fault.ensures c.is_catalogue.ensures
     c.has_tables.ensures
     c.are_lawful.ensures c.requires.line)
 
@@ -19,5 +19,5 @@ pub returns-clause-text : goal.returns-clause-text
 returns-clause-text g c =
     let s = setting c.args.grammar.now (g.N.Names.catalogue c.args.names.now) (g.R.Rules.meanings c.args.rules.now) in
     subst (λ (put : Insertion). AllByRecursion (λ byte. is_text byte ≡ true) put.bytes) (sym c.inserted.ensures)
-    (insertion_is_typed s c.has_no_fault.ensures c.is_catalogue.ensures c.has_tables.ensures c.are_lawful.ensures _
+    (insertion_is_typed s c.has_no_fault.ensures c.is_catalogue.ensures c.has_tables.ensures c.are_lawful.ensures _ _
     c.args.line.now _)
