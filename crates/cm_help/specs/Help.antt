@@ -12,6 +12,7 @@ use Rattle.cm_blocks.specs.declared.function.Function.{Function}
 use Rattle.cm_blocks.specs.declared.function.Function.TheVariants.{Noise}
 use Rattle.cm_blocks.specs.declared.node.Block.{Block}
 use Rattle.cm_blocks.specs.declared.node.Node.{Node}
+use Rattle.cm_blocks.specs.FieldView.{FieldView}
 use Rattle.cm_blocks.specs.Grammar.{Graph}
 use Rattle.cm_blocks.specs.Setting.{Setting}
 use Rattle.cm_blocks.specs.Trial.{trial}
@@ -29,23 +30,25 @@ possible s atom at blocks =
     filter (λ (block : Block). not (refuses (trial s block.function block.flags atom at))) blocks
 
 -- the phrases of all blocks of a node, of which nothing is typed
-abbrev pub node_phrases : Graph → Meanings → Option Node → List (List ℕ)
-node_phrases graph meanings None = []
-node_phrases graph meanings (Some node) = map (phrase graph meanings []) node.chain
+abbrev pub node_phrases : Graph → Meanings → List FieldView → Option Node → List (List ℕ)
+node_phrases graph meanings fields None = []
+node_phrases graph meanings fields (Some node) = map (phrase graph meanings fields []) node.chain
 
 abbrev pub is_guide : Function → Bool
 is_guide (Noise text) = true
 is_guide function = false
 
 -- after a guide word of which nothing is typed, and which may be left out, the blocks of its next node may come too
-abbrev pub after_guide : Graph → Meanings → Block → List ℕ → List (List ℕ)
-after_guide graph meanings block atom =
-    if is_guide block.function && length atom == 0 then node_phrases graph meanings (slice_get graph.nodes block.next)
+abbrev pub after_guide : Graph → Meanings → List FieldView → Block → List ℕ → List (List ℕ)
+after_guide graph meanings fields block atom =
+    if is_guide block.function && length atom == 0
+    then node_phrases graph meanings fields (slice_get graph.nodes block.next)
     else []
 
 -- the phrases that a block gives
-abbrev pub phrases : Graph → Meanings → List ℕ → Block → List (List ℕ)
-phrases graph meanings atom block = phrase graph meanings atom block ∷ after_guide graph meanings block atom
+abbrev pub phrases : Graph → Meanings → List FieldView → List ℕ → Block → List (List ℕ)
+phrases graph meanings fields atom block =
+    phrase graph meanings fields atom block ∷ after_guide graph meanings fields block atom
 
 -- the first phrase is after a space, each further one on a line of its own
 unfoldable pub lead : Bool → List ℕ
@@ -61,21 +64,23 @@ unfoldable pub comment : List ℕ
 comment = codes " comment"
 
 -- what may come where the blocks of a node wait from this one on
-abbrev pub waiting : Setting → Node → ℕ → List ℕ → ℕ → List ℕ
-waiting s node block atom at =
-    listing true (flat_map (phrases s.graph s.meanings atom) (possible s atom at (drop block node.chain)))
+abbrev pub waiting : Setting → List FieldView → Node → ℕ → List ℕ → ℕ → List ℕ
+waiting s fields node block atom at =
+    listing true (flat_map (phrases s.graph s.meanings fields atom) (possible s atom at (drop block node.chain)))
 
 -- what may come at this place of the line; where no block waits, a comment is not ended
-abbrev pub at_place : Setting → List ℕ → ℕ → Option ℕ → Option Node → List ℕ
-at_place s line at None found = comment
-at_place s line at (Some block) None = []
-at_place s line at (Some block) (Some node) = waiting s node block (drop at line) at
+abbrev pub at_place : Setting → List FieldView → List ℕ → ℕ → Option ℕ → Option Node → List ℕ
+at_place s fields line at None found = comment
+at_place s fields line at (Some block) None = []
+at_place s fields line at (Some block) (Some node) = waiting s fields node block (drop at line) at
 
 -- [question-mark]
--- what may come after a line whose parse ends so, or why it is refused; a place that is none of the line gives nothing
-unfoldable pub help_text : Setting → Ending → List ℕ → List ℕ
-help_text s (ending.Open place) line =
-    if nat_le place.at (length line) then at_place s line place.at place.block (slice_get s.graph.nodes place.node)
+-- what may come after a line of these fields whose parse ends so, or why it is refused; a place that is none of the
+-- line gives nothing
+unfoldable pub help_text : Setting → List FieldView → Ending → List ℕ → List ℕ
+help_text s fields (ending.Open place) line =
+    if nat_le place.at (length line)
+    then at_place s fields line place.at place.block (slice_get s.graph.nodes place.node)
     else []
-help_text s ending.Done line = []
-help_text s (ending.Fault fault) line = lead true ++ code_text fault.code
+help_text s fields ending.Done line = []
+help_text s fields (ending.Fault fault) line = lead true ++ code_text fault.code

@@ -1,2 +1,4 @@
 pub mod Help
+pub mod Names
+pub mod Numbers
 pub mod Phrase

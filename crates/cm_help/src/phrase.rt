@@ -3,13 +3,16 @@
 
 ghost use Rattle.std.specs.Prelude.{◌≡◌, ◌<◌, ◌++◌, ◌&&◌, true, drop, None};
 ghost use Rattle.cm_text.specs.ScreenBytes.{end_of_line};
-ghost use Rattle.cm_tables.specs.Listing.{listed_from};
+ghost use Rattle.cm_tables.specs.Listing.{first_place};
 ghost use Rattle.cm_io.specs.Writer.{Writes};
 ghost use Rattle.cm_blocks.specs.Fault.{has_table};
+ghost use Rattle.cm_blocks.specs.Once.{fields_at, may_come};
 ghost use Rattle.cm_blocks.specs.Well.{IsWellBlock};
-ghost use Rattle.cm_help.specs.Phrase.{colon, entry_help, entry_line, entry_lines, function_phrase, gap, guide_end, guide_word, indent, keywords, none_matches, one_of, phrase, quote};
+ghost use Rattle.cm_help.specs.Phrase.{choices, colon, entry_help, entry_line, entry_lines, function_names, function_phrase, guide_end, guide_word, indent, keywords, none_matches, one_of, phrase, quote, words};
 
-use cm_blocks::{Block, Function, Grammar};
+use crate::names::{gap, put_names};
+use crate::numbers::put_numbers;
+use cm_blocks::{Block, Field, Function, Grammar, may_come};
 use cm_hooks::Rules;
 use cm_io::{Sink, Writer};
 use cm_tables::{Entry, Table};
@@ -64,13 +67,6 @@ fn quote() -> &'static [u8]
     b"\""
 }
 
-#[tactic(auto, unfolding(crate::specs::Phrase::gap))]
-fn gap() -> &'static [u8]
-    ensures { result.now ≡ gap }
-{
-    b"  "
-}
-
 // Puts the help of an entry after the entry, where it has one.
 #[tactic(auto, using(cm_io::proofs::Texts::texts, cm_io::proofs::Texts::each))]
 fn put_entry_help<S: Sink>(help: &Option<Name>, out: &mut Writer<'_, S>)
@@ -94,27 +90,70 @@ fn put_entry<S: Sink>(switch: bool, entry: &Entry, out: &mut Writer<'_, S>)
     put_entry_help(&entry.help, out);
 }
 
-// Puts the listed entries that go on from an atom, one after the other.
-#[tactic(auto, using(cm_io::proofs::Texts::turns))]
-fn put_entries<S: Sink>(switch: bool, table: &Table, atom: &[u8], out: &mut Writer<'_, S>)
-    ensures { Writes S.Sink out.old out.new (entry_lines switch (listed_from 0 table.now atom.now)) }
+// The position of the first listed entry of a block's table that goes on from an atom and may come behind these fields.
+#[tactic(auto, using(crate::proofs::Entries::first_comes, crate::proofs::Entries::choices_end))]
+fn first_choice(
+    grammar: &Grammar,
+    fields: &[Option<Field>],
+    block: &Block,
+    table: &Table,
+    atom: &[u8],
+) -> Option<u16>
+    ensures { result
+        ≡ first_place (choices (may_come grammar.now (fields_at fields.now) block.now) 0 table.now atom.now) }
 {
     let mut from = 0;
     while let Some(position) = table.next_listed(from, atom) {
-        put_entry(switch, table.entry(position), out);
+        if may_come(grammar, fields, block, position) {
+            return Some(position);
+        }
         from = position + 1;
+    }
+    None
+}
+
+// Puts these entries, one after the other.
+#[tactic(auto, using(cm_io::proofs::Texts::turns, crate::proofs::Entries::choices_end))]
+fn put_entries<S: Sink>(
+    switch: bool,
+    grammar: &Grammar,
+    fields: &[Option<Field>],
+    block: &Block,
+    table: &Table,
+    atom: &[u8],
+    out: &mut Writer<'_, S>,
+)
+    ensures { Writes S.Sink out.old out.new
+        (entry_lines switch (choices (may_come grammar.now (fields_at fields.now) block.now) 0 table.now atom.now)) }
+{
+    let mut from = 0;
+    while let Some(position) = table.next_listed(from, atom) {
+        from = position + 1;
+        if !may_come(grammar, fields, block, position) {
+            continue;
+        }
+        put_entry(switch, table.entry(position), out);
     }
 }
 
-// Puts the listed entries that go on from an atom, or that there are none.
-fn put_keywords<S: Sink>(switch: bool, table: &Table, atom: &[u8], out: &mut Writer<'_, S>)
-    ensures { Writes S.Sink out.old out.new (keywords switch (listed_from 0 table.now atom.now)) }
+// Puts these entries, or that there are none.
+fn put_keywords<S: Sink>(
+    switch: bool,
+    grammar: &Grammar,
+    fields: &[Option<Field>],
+    block: &Block,
+    table: &Table,
+    atom: &[u8],
+    out: &mut Writer<'_, S>,
+)
+    ensures { Writes S.Sink out.old out.new
+        (keywords switch (choices (may_come grammar.now (fields_at fields.now) block.now) 0 table.now atom.now)) }
 {
-    if table.next_listed(0, atom).is_none() {
+    if first_choice(grammar, fields, block, table, atom).is_none() {
         out.put(none_matches());
     } else {
         out.put(one_of());
-        put_entries(switch, table, atom, out);
+        put_entries(switch, grammar, fields, block, table, atom, out);
     }
 }
 
@@ -137,31 +176,46 @@ fn after_slash(atom: &[u8]) -> &[u8]
     }
 }
 
-// Puts what a function reads, in its own words.
+// Puts what the function of a block reads, in its own words.
 #[tactic(auto, unfolding(crate::specs::Phrase::function_phrase))]
 fn put_function<R: Rules, S: Sink>(
     grammar: &Grammar,
-    function: &Function,
+    fields: &[Option<Field>],
+    block: &Block,
     atom: &[u8],
     rules: &R,
     out: &mut Writer<'_, S>,
 )
-    requires table { has_table grammar.now.tables function.now ≡ true }
-    ensures { Writes S.Sink out.old out.new (function_phrase grammar.now (R.meanings rules.now) function.now atom.now) }
+    requires table { has_table grammar.now.tables block.now.function ≡ true }
+    ensures { Writes S.Sink out.old out.new (function_phrase grammar.now (R.meanings rules.now)
+        (may_come grammar.now (fields_at fields.now) block.now) block.now.function atom.now) }
 {
-    match function {
-        Function::Key(table) => put_keywords(false, grammar.table(*table), atom, out),
+    match &block.function {
+        Function::Key(table) => put_keywords(
+            false,
+            grammar,
+            fields,
+            block,
+            grammar.table(*table),
+            atom,
+            out,
+        ),
         Function::Switch(table) => put_keywords(
             true,
+            grammar,
+            fields,
+            block,
             grammar.table(*table),
             after_slash(atom),
             out,
         ),
         Function::Noise(text) => put_between(guide_word(), text.as_bytes(), guide_end(), out),
         Function::Number => out.put(b"decimal number"),
+        Function::Numeral(numbers) => put_numbers(numbers, out),
         Function::Word => out.put(b"word"),
         Function::Run(_) => out.put(b"field"),
         Function::Quoted => out.put(b"quoted string"),
+        Function::LongQuoted => out.put(b"quoted string"),
         Function::Token(text) => put_between(quote(), text.as_bytes(), quote(), out),
         Function::Date => out.put(b"date, as 5-JAN-1980"),
         Function::User => out.put(b"user name"),
@@ -176,20 +230,54 @@ fn put_function<R: Rules, S: Sink>(
     }
 }
 
-// Puts what a block reads of which the atom is typed.
+// Puts what a block reads in words: its own, where it has any.
 #[tactic(auto)]
-pub(crate) fn put_phrase<R: Rules, S: Sink>(
+fn put_words<R: Rules, S: Sink>(
     grammar: &Grammar,
+    fields: &[Option<Field>],
     block: &Block,
     atom: &[u8],
     rules: &R,
     out: &mut Writer<'_, S>,
 )
     requires well { IsWellBlock grammar.now block.now }
-    ensures { Writes S.Sink out.old out.new (phrase grammar.now (R.meanings rules.now) atom.now block.now) }
+    ensures { Writes S.Sink out.old out.new
+        (words grammar.now (R.meanings rules.now) (fields_at fields.now) atom.now block.now) }
 {
     match &block.help {
         Some(text) => out.put(text.as_bytes()),
-        None => put_function(grammar, &block.function, atom, rules, out),
+        None => put_function(grammar, fields, block, atom, rules, out),
     }
+}
+
+// Puts the names that a function reads, where they are listed.
+#[tactic(auto, using(cm_io::proofs::Texts::writes_none))]
+fn put_function_names<R: Rules, S: Sink>(
+    function: &Function,
+    atom: &[u8],
+    rules: &R,
+    out: &mut Writer<'_, S>,
+)
+    ensures { Writes S.Sink out.old out.new (function_names (R.meanings rules.now) function.now atom.now) }
+{
+    if let Function::Hook(id) = function {
+        put_names(rules, *id, atom, out);
+    }
+}
+
+// Puts what a block reads of which the atom is typed.
+pub(crate) fn put_phrase<R: Rules, S: Sink>(
+    grammar: &Grammar,
+    fields: &[Option<Field>],
+    block: &Block,
+    atom: &[u8],
+    rules: &R,
+    out: &mut Writer<'_, S>,
+)
+    requires well { IsWellBlock grammar.now block.now }
+    ensures { Writes S.Sink out.old out.new
+        (phrase grammar.now (R.meanings rules.now) (fields_at fields.now) atom.now block.now) }
+{
+    put_words(grammar, fields, block, atom, rules, out);
+    put_function_names(&block.function, atom, rules, out);
 }
