@@ -12,6 +12,7 @@ use Rattle.cm_line.specs.declared.key.KeyClass.TheVariants.{End}
 use Rattle.cm_line.specs.Keys.{class_at, is_end}
 use Rattle.cm_blocks.specs.declared.field.Ending.{Ending}
 use Rattle.cm_blocks.specs.Fault.{grammar_fault}
+use Rattle.cm_blocks.specs.FieldView.{FieldView}
 use Rattle.cm_blocks.specs.KeptParse.{BeginsWith, common, cost, cost_after, decided_within, kept}
 use Rattle.cm_blocks.specs.Parse.{IsClosed, IsParse, Parse, open_at, parse_of}
 use Rattle.cm_blocks.specs.Setting.{Setting}
@@ -38,7 +39,7 @@ Reopens old reopened =
 abbrev pub AppliesEdit : Setting → SessionState → SessionState → KeyClass → ℕ → Type 0
 AppliesEdit s reopened applied class key =
     applied ≡ record reopened {
-      line = edit class key reopened.line reopened.recall (completion s class reopened.ending reopened.line).bytes;
+      line = edit class key reopened.line reopened.recall (completion s class reopened.fields reopened.ending reopened.line).bytes;
       is_finished = is_end class;
       recall = None;
     }
@@ -120,18 +121,22 @@ trimmed_starts s old trimmed none ready trim =
 -- what a key puts in is what completes the line that it meets
 pub met_completion : (s : Setting) (old reopened : SessionState) (class : KeyClass) → grammar_fault s.graph ≡ None
     → IsReady s old
-    → Reopens old reopened → completion s class reopened.ending reopened.line ≡ completed s old class
+    → Reopens old reopened → completion s class reopened.fields reopened.ending reopened.line ≡ completed s old class
 met_completion s old reopened class none ready reopen =
     let line : reopened.line ≡ line_before old = ap (λ (h : SessionState). h.line) reopen in
     let ends : reopened.ending ≡ (parse_of s old.node (line_before old)).ending =
     ap (λ (h : SessionState). h.ending) reopen ∙ met_ending s old none ready in
-    ap (λ (ends : Ending). completion s class ends reopened.line) ends
-    ∙ ap (λ (line : List ℕ). completion s class (parse_of s old.node (line_before old)).ending line) line
+    let fields : reopened.fields ≡ (parse_of s old.node (line_before old)).fields =
+    ap (λ (h : SessionState). h.fields) reopen ∙ met_fields s old none ready in
+    ap (λ (fields : List FieldView). completion s class fields reopened.ending reopened.line) fields
+    ∙ ap (λ (ends : Ending). completion s class (parse_of s old.node (line_before old)).fields ends reopened.line) ends
+    ∙ ap (λ (line : List ℕ).
+    completion s class (parse_of s old.node (line_before old)).fields (parse_of s old.node (line_before old)).ending line) line
 
 -- the line with its parse, over the steps: the line is reopened, edited, and its parse held
 edited_is : (s : Setting) (old reopened applied trimmed now : SessionState) (class : KeyClass) (key size : ℕ)
     → class ≡ class_at (line_before old) key
-    → completion s class reopened.ending reopened.line ≡ completed s old class
+    → completion s class reopened.fields reopened.ending reopened.line ≡ completed s old class
     → Reopens old reopened
     → AppliesEdit s reopened applied class key
     → trimmed ≡ record applied { fields = decided_within size applied.fields }

@@ -18,6 +18,7 @@ use Rattle.cm_hooks.specs.Meanings.{IsLawful}
 use Rattle.cm_blocks.specs.declared.field.Ending.{Ending}
 use Rattle.cm_blocks.specs.declared.field.Ending.TheVariants as ending
 use Rattle.cm_blocks.specs.Fault.{grammar_fault}
+use Rattle.cm_blocks.specs.FieldView.{FieldView}
 use Rattle.cm_blocks.specs.Parse.{parse_of}
 use Rattle.cm_blocks.specs.Setting.{Setting}
 use Rattle.cm_blocks.specs.Well.{AreTables}
@@ -99,23 +100,23 @@ edit_is_line held key inserted is recall longer =
 
 -- with what a key puts in that completes it, it is a line
 completed_is_line : (s : Setting) → grammar_fault s.graph ≡ None → IsCatalogue s.catalogue → AreTables s.graph.tables
-    → IsLawful s.meanings → (class : KeyClass) (ends : Ending) (line : List ℕ) → IsLine line
-    → IsLine (line ++ (completion s class ends line).bytes)
-completed_is_line s none named tables lawful Escape ends line is =
-    line_goes_on s ends line modes.Escape none named tables lawful is
-completed_is_line s none named tables lawful Part ends line is =
-    line_goes_on s ends line modes.Part none named tables lawful is
-completed_is_line s none named tables lawful Text ends line is = subst IsLine (sym (append-nil line)) is
-completed_is_line s none named tables lawful Join ends line is = subst IsLine (sym (append-nil line)) is
-completed_is_line s none named tables lawful End ends line is = subst IsLine (sym (append-nil line)) is
-completed_is_line s none named tables lawful Rub ends line is = subst IsLine (sym (append-nil line)) is
-completed_is_line s none named tables lawful Word ends line is = subst IsLine (sym (append-nil line)) is
-completed_is_line s none named tables lawful Erase ends line is = subst IsLine (sym (append-nil line)) is
-completed_is_line s none named tables lawful Show ends line is = subst IsLine (sym (append-nil line)) is
-completed_is_line s none named tables lawful Back ends line is = subst IsLine (sym (append-nil line)) is
-completed_is_line s none named tables lawful Stop ends line is = subst IsLine (sym (append-nil line)) is
-completed_is_line s none named tables lawful Help ends line is = subst IsLine (sym (append-nil line)) is
-completed_is_line s none named tables lawful Other ends line is = subst IsLine (sym (append-nil line)) is
+    → IsLawful s.meanings → (class : KeyClass) (fields : List FieldView) (ends : Ending) (line : List ℕ) → IsLine line
+    → IsLine (line ++ (completion s class fields ends line).bytes)
+completed_is_line s none named tables lawful Escape fields ends line is =
+    line_goes_on s fields ends line modes.Escape none named tables lawful is
+completed_is_line s none named tables lawful Part fields ends line is =
+    line_goes_on s fields ends line modes.Part none named tables lawful is
+completed_is_line s none named tables lawful Text fields ends line is = subst IsLine (sym (append-nil line)) is
+completed_is_line s none named tables lawful Join fields ends line is = subst IsLine (sym (append-nil line)) is
+completed_is_line s none named tables lawful End fields ends line is = subst IsLine (sym (append-nil line)) is
+completed_is_line s none named tables lawful Rub fields ends line is = subst IsLine (sym (append-nil line)) is
+completed_is_line s none named tables lawful Word fields ends line is = subst IsLine (sym (append-nil line)) is
+completed_is_line s none named tables lawful Erase fields ends line is = subst IsLine (sym (append-nil line)) is
+completed_is_line s none named tables lawful Show fields ends line is = subst IsLine (sym (append-nil line)) is
+completed_is_line s none named tables lawful Back fields ends line is = subst IsLine (sym (append-nil line)) is
+completed_is_line s none named tables lawful Stop fields ends line is = subst IsLine (sym (append-nil line)) is
+completed_is_line s none named tables lawful Help fields ends line is = subst IsLine (sym (append-nil line)) is
+completed_is_line s none named tables lawful Other fields ends line is = subst IsLine (sym (append-nil line)) is
 
 pub edited_is_line : (s : Setting) → grammar_fault s.graph ≡ None → IsCatalogue s.catalogue → AreTables s.graph.tables
     → IsLawful s.meanings → (held : SessionState) (key : ℕ) → IsLine (line_before held) → IfSome held.recall IsLine
@@ -123,8 +124,8 @@ pub edited_is_line : (s : Setting) → grammar_fault s.graph ≡ None → IsCata
 unfolding edited_as
 edited_is_line s none named tables lawful held key is recall =
     edit_is_line held key (completed s held (class_at (line_before held) key)).bytes is recall
-    (completed_is_line s none named tables lawful (class_at (line_before held) key) (parse_of s held.node (line_before held)).ending
-    (line_before held) is)
+    (completed_is_line s none named tables lawful (class_at (line_before held) key) (parse_of s held.node (line_before held)).fields
+    (parse_of s held.node (line_before held)).ending (line_before held) is)
 
 -- the bytes before a fault are a line
 before_is_line : (line : List ℕ) (ends : Ending) → IsLine line → IfSome (before_fault line ends) IsLine

@@ -5,8 +5,10 @@ use Rattle.std.proofs.lemmas.List.{map-append}
 use Rattle.cm_lists.proofs.Elements.{slice_get-map_some}
 use Rattle.cm_blocks.specs.declared.field.TheConstants.{FIELD_LIMIT}
 use Rattle.cm_blocks.specs.KeptParse.{decided_within}
+use Rattle.cm_blocks.specs.Once.{fields_at}
 use Rattle.cm_blocks.specs.Parse.{node_after, place_after}
 use Rattle.cm_blocks.specs.FieldView.{FieldView}
+use Rattle.cm_blocks.proofs.Onces.{fields_of_all}
 use Rattle.cm_state.specs.Stack.{first_decided_within, somes}
 
 abbrev some : FieldView → Option FieldView
@@ -45,6 +47,12 @@ item_at items slice fields number index item all is same at within get =
     slice_get-map_some fields number item within
     ∙ ap (λ list. get_or list number item) (ap (map (λ field. Some field)) (sym is) ∙ sym all ∙ sym same)
     ∙ ap (λ number. get_or slice number item) (sym at) ∙ sym get
+
+pub places_hold : (items slice : List (Option FieldView)) (fields : List FieldView)
+    → items ≡ map (λ field. Some field) (somes items) → somes items ≡ fields → slice ≡ items
+    → fields_at slice ≡ fields
+places_hold items slice fields all is same =
+    ap fields_at (same ∙ all) ∙ fields_of_all (somes items) ∙ is
 
 -- where the first field stands that needs more
 first_decided_within_is : (size number : ℕ) (fields : List FieldView)

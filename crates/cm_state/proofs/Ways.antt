@@ -23,6 +23,7 @@ use Rattle.cm_blocks.specs.Parse.{Follow, IsParse, ending_of, node_after, place_
 use Rattle.cm_blocks.specs.Setting.{Setting}
 use Rattle.cm_blocks.specs.Trial.{entry_next, keyword_next, next_of, table_of}
 use Rattle.cm_blocks.proofs.Fields.{IsEnded, IsTried, chain_ended, chain_number, chain_tried}
+use Rattle.cm_blocks.proofs.Onces.{done_stands}
 use Rattle.cm_blocks.proofs.Values.{IsKeyword, is_on_way, no_end, trial_says}
 use Rattle.cm_state.specs.Roles.{field_of, is_role}
 use Rattle.cm_state.proofs.Branches.{Begins, Branch, IsBranch, IsOf, after_end, after_first, all_from, all_pass_at, entry_leads, first_field, found_inside, inside_at, leads, leads_to, next_as, next_inside}
@@ -226,7 +227,8 @@ module _ (s : Setting) (start table : ℕ) (begins : Begins s.graph start table)
   there_after branch way [] verb parse is named = cc
   there_after branch way (first ∷ fields) verb parse is named =
       let it = after branch way.none way.commands way.other first fields verb parse.follow is named in
-      let later = there_ahead branch way first.next first.end fields it.inside parse.follow.1 parse.ending in
+      let ends = done_stands s.graph (first ∷ fields) _ parse.ending in
+      let later = there_ahead branch way first.next first.end fields it.inside parse.follow.1 ends in
       record {
         field = later.field;
         found = found_after (is_role branch.role first.role) first (field_of branch.role fields) later.field it.other

@@ -1,5 +1,5 @@
 -- The bytes that one key shows.
-use Rattle.std.specs.Prelude.{ℕ, ◌-◌, ◌==◌, Bool, true, false, List, [], ◌∷◌, ◌++◌, length, drop, nat_lt, is_some, codes, if◌then◌else◌}
+use Rattle.std.specs.Prelude.{ℕ, ◌-◌, ◌==◌, Bool, true, false, List, [], ◌∷◌, ◌++◌, length, drop, nat_lt, is_some, codes, if◌then◌else◌, Option, Some, None, slice_get}
 use Rattle.std.specs.List.{flat_map, list_any}
 use Rattle.cm_text.specs.declared.text.TheConstants.{JOIN, LINE_LIMIT}
 use Rattle.cm_text.specs.ScreenBytes.{bell, control_c, end_of_line, question, rubout, screen_byte, shown_byte}
@@ -12,6 +12,8 @@ use Rattle.cm_fields.specs.declared.code.Code.{Code}
 use Rattle.cm_fields.specs.Code.{code_text}
 use Rattle.cm_blocks.specs.declared.field.Ending.{Ending}
 use Rattle.cm_blocks.specs.declared.field.Ending.TheVariants as ending
+use Rattle.cm_blocks.specs.declared.node.Node.{Node}
+use Rattle.cm_blocks.specs.Grammar.{Graph}
 use Rattle.cm_blocks.specs.Setting.{Setting}
 use Rattle.cm_help.specs.Help.{help_text}
 use Rattle.cm_state.specs.declared.prompt.Prompt.{Prompt}
@@ -29,7 +31,7 @@ unfoldable pub prompt_text : Prompt → List ℕ
 prompt_text Main = codes "@"
 prompt_text Sub = codes "@@"
 prompt_text (Own text) = text.now
-prompt_text (Named name mark) = label_name name ++ mark ∷ []
+prompt_text (Named name after) = label_name name ++ label_name after
 
 -- a line after its prompt
 unfoldable pub with_prompt : Prompt → List ℕ → List ℕ
@@ -43,11 +45,27 @@ again prompt line = end_of_line ++ with_prompt prompt line
 unfoldable pub refusal : Code → List ℕ
 refusal code = question ++ (code_text code ++ end_of_line)
 
+unfoldable pub missing : List ℕ
+missing = codes "?Missing "
+
+-- why a line is refused that ends before the field that a node awaits: by its name, where the node has it, else by the
+-- code
+abbrev pub omission : Option (List ℕ) → Code → List ℕ
+omission None code = refusal code
+omission (Some name) code = missing ++ (name ++ end_of_line)
+
+-- what a node awaits, where it names it
+abbrev pub awaited : Option Node → Option (List ℕ)
+awaited None = None
+awaited (Some node) = node.awaits
+
 -- what a finished line shows besides
-unfoldable pub complaint : Ending → List ℕ
-complaint (ending.Open place) = []
-complaint ending.Done = []
-complaint (ending.Fault fault) = refusal fault.code
+unfoldable pub complaint : Graph → List ℕ → Ending → List ℕ
+complaint graph line (ending.Open place) = []
+complaint graph line ending.Done = []
+complaint graph line (ending.Fault fault) =
+    if fault.at == length line then omission (awaited (slice_get graph.nodes fault.node)) fault.code
+    else refusal fault.code
 
 -- a join byte is among these
 abbrev pub has_join : List ℕ → Bool
@@ -86,13 +104,13 @@ echo_of s Word key size joins restores rings_bell now = taken_away joins now.pro
 echo_of s Erase key size joins restores rings_bell now = taken_away joins now.prompt size now.line
 echo_of s Show key size joins restores rings_bell now = again now.prompt now.line
 echo_of s Help key size joins restores rings_bell now =
-    question ++ help_text s now.ending now.line ++ again now.prompt now.line
+    question ++ help_text s now.fields now.ending now.line ++ again now.prompt now.line
 echo_of s Back key size joins restores rings_bell now = if restores then screen_line now.line else bell
 echo_of s Stop key size joins restores rings_bell now = control_c ++ end_of_line
 echo_of s Escape key size joins restores rings_bell now = drop size now.line ++ ring rings_bell
 echo_of s Part key size joins restores rings_bell now = drop size now.line ++ ring rings_bell
 echo_of s Join key size joins restores rings_bell now = end_of_line
-echo_of s End key size joins restores rings_bell now = end_of_line ++ complaint now.ending
+echo_of s End key size joins restores rings_bell now = end_of_line ++ complaint s.graph now.line now.ending
 echo_of s class key size joins restores rings_bell now = bell
 
 -- [key-echo] the bytes that a key shows

@@ -8,6 +8,7 @@ use Rattle.cm_line.specs.Keys.{class_at, is_end}
 use Rattle.cm_line.specs.Word.{word_start}
 use Rattle.cm_blocks.specs.declared.field.Ending.{Ending}
 use Rattle.cm_blocks.specs.declared.field.Ending.TheVariants as ending
+use Rattle.cm_blocks.specs.FieldView.{FieldView}
 use Rattle.cm_blocks.specs.Parse.{parse_of}
 use Rattle.cm_blocks.specs.Setting.{Setting}
 use Rattle.cm_recognise.specs.declared.insertion.Insertion.{Insertion}
@@ -15,11 +16,11 @@ use Rattle.cm_recognise.specs.declared.insertion.Mode.TheVariants as modes
 use Rattle.cm_recognise.specs.Insertion.{insertion}
 use Rattle.cm_state.specs.SessionState.{SessionState, line_before, text_of}
 
--- what a key of this class puts into a line whose parse ends so: ESC and control-F complete it
-abbrev pub completion : Setting → KeyClass → Ending → List ℕ → Insertion
-completion s Escape ends line = insertion s ends line modes.Escape
-completion s Part ends line = insertion s ends line modes.Part
-completion s class ends line = record { bytes = []; bell = false }
+-- what a key of this class puts into a line whose parse has these fields and ends so: ESC and control-F complete it
+abbrev pub completion : Setting → KeyClass → List FieldView → Ending → List ℕ → Insertion
+completion s Escape fields ends line = insertion s fields ends line modes.Escape
+completion s Part fields ends line = insertion s fields ends line modes.Part
+completion s class fields ends line = record { bytes = []; bell = false }
 
 -- the line after a key, CR left out, where a key that completes puts these bytes in
 abbrev pub edit : KeyClass → ℕ → List ℕ → Option (List ℕ) → List ℕ → List ℕ
@@ -45,7 +46,9 @@ before_fault line (ending.Fault fault) = Some (take fault.at line)
 
 -- what a key puts into the line that it meets
 abbrev pub completed : Setting → SessionState → KeyClass → Insertion
-completed s held class = completion s class (parse_of s held.node (line_before held)).ending (line_before held)
+completed s held class =
+    let parse = parse_of s held.node (line_before held) in
+    completion s class parse.fields parse.ending (line_before held)
 
 -- [whole-line]
 -- the session after a key of this class: the line, finished where the class is an end, and the parse of that text

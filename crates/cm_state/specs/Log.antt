@@ -35,6 +35,11 @@ unfoldable pub day_log : ℤ → List ℕ
 day_log day =
     if int_lt day (pos 0) then marked (codes "d-") (unsigned_abs day) else marked (codes "d") (unsigned_abs day)
 
+-- a number of a radix in decimal digits, with `-` before one below 0
+unfoldable pub integer_log : ℤ → List ℕ
+integer_log number =
+    if int_lt number (pos 0) then marked (codes "#-") (unsigned_abs number) else marked (codes "#") (unsigned_abs number)
+
 -- the id of a hook, and what it made of the field
 unfoldable pub hook_log : ℕ → ℕ → List ℕ
 hook_log id value = marked (codes "h") id ++ marked (codes ":") value
@@ -52,6 +57,7 @@ value_log (values.Switch entry code) = marked (codes "s") code
 value_log (values.Noise true) = codes "n1"
 value_log (values.Noise false) = codes "n0"
 value_log (values.Number number) = marked (codes "#") number
+value_log (values.Integer number) = integer_log number
 value_log (values.Word span) = codes "w"
 value_log (values.Quoted span) = codes "q"
 value_log values.Token = codes "t"

@@ -24,5 +24,5 @@ pub record Starts (s : Setting) (start : ℕ) (text : List ℕ) (fields : List F
   pub node : node_after start fields < length s.graph.nodes
   pub place : place_after 0 fields ≤ length text
   pub parse : parse_of s start text
-      ≡ with_fields fields (parse_from s text (FIELD_LIMIT - length fields)
+      ≡ with_fields fields (parse_from s text fields (FIELD_LIMIT - length fields)
       (node_after start fields) (place_after 0 fields))

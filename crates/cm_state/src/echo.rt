@@ -1,25 +1,28 @@
 // What a key shows.
 #![tactic(auto, using(cm_io::proofs::Texts::texts))]
 
-ghost use Rattle.std.specs.Prelude.{◌≡◌, ◌+◌, ◌≤◌, ◌==◌, [], ◌∷◌, ◌++◌, length};
+ghost use Rattle.std.specs.Prelude.{◌≡◌, ◌+◌, ◌≤◌, ◌==◌, [], ◌++◌, length, slice_get};
 ghost use Rattle.cm_io.specs.Writer.{Writes};
 ghost use Rattle.cm_text.specs.ScreenBytes.{end_of_line, question, shown_byte};
 ghost use Rattle.cm_text.specs.declared.text.TheConstants.{JOIN};
+ghost use Rattle.cm_blocks.specs.Once.{fields_at};
 ghost use Rattle.cm_blocks.specs.Setting.{setting};
 ghost use Rattle.cm_help.specs.Help.{help_text};
 ghost use Rattle.cm_state.specs.Label.{label_name};
-ghost use Rattle.cm_state.specs.Echo.{again, complaint, has_join, prompt_text, refusal, ring, screen_line, taken_away, takes_join, with_prompt};
+ghost use Rattle.cm_state.specs.Echo.{again, awaited, complaint, has_join, missing, omission, prompt_text, refusal, ring, screen_line, taken_away, takes_join, with_prompt};
 
 use crate::{Label, Prompt};
 use arrayvec::ArrayVec;
-use cm_blocks::{Ending, Grammar};
+use cm_blocks::{Ending, Fault, Field, Grammar};
 use cm_fields::Code;
 use cm_files::Names;
 use cm_help::put_help;
 use cm_hooks::Rules;
 use cm_io::{Sink, Writer};
 use cm_line::{KeyClass, Line};
-use cm_text::{JOIN, LINE_LIMIT, bell, end_of_line, join_shown, question, rubout, screen_byte};
+use cm_text::{
+    JOIN, LINE_LIMIT, Name, bell, end_of_line, join_shown, question, rubout, screen_byte,
+};
 
 // The most bytes that a line takes on the screen: three for a join byte.
 const SHOWN_LIMIT: usize = 3 * LINE_LIMIT;
@@ -68,16 +71,16 @@ pub(crate) fn put_prompt<S: Sink>(prompt: &Prompt, out: &mut Writer<'_, S>)
         Prompt::Main => out.put(b"@"),
         Prompt::Sub => out.put(b"@@"),
         Prompt::Own(text) => out.put(text.as_bytes()),
-        Prompt::Named(name, mark) => put_named(name, *mark, out),
+        Prompt::Named(name, after) => put_named(name, after, out),
     }
 }
 
-// Shows a name and the mark after it.
-fn put_named<S: Sink>(name: &Label, mark: u8, out: &mut Writer<'_, S>)
-    ensures { Writes S.Sink out.old out.new (label_name name.now ++ mark ∷ []) }
+// Shows a name and what follows it.
+fn put_named<S: Sink>(name: &Label, after: &Label, out: &mut Writer<'_, S>)
+    ensures { Writes S.Sink out.old out.new (label_name name.now ++ label_name after.now) }
 {
     out.put(name.as_bytes());
-    out.put(&[mark]);
+    out.put(after.as_bytes());
 }
 
 // Shows a line after its prompt.
@@ -103,6 +106,7 @@ pub(crate) fn put_again<S: Sink>(prompt: &Prompt, line: &[u8], out: &mut Writer<
 // Shows what may come after the line, and the line again.
 pub(crate) fn put_help_and_line<N: Names, R: Rules, S: Sink>(
     grammar: &Grammar,
+    fields: &[Option<Field>],
     ending: Ending,
     prompt: &Prompt,
     line: &[u8],
@@ -112,11 +116,11 @@ pub(crate) fn put_help_and_line<N: Names, R: Rules, S: Sink>(
 )
     requires line { length line.now ≤ LINE_LIMIT }
     ensures { Writes S.Sink out.old out.new
-        (question ++ help_text (setting grammar.now (N.catalogue names.now) (R.meanings rules.now)) ending line.now
-        ++ again prompt.now line.now) }
+        (question ++ help_text (setting grammar.now (N.catalogue names.now) (R.meanings rules.now))
+        (fields_at fields.now) ending line.now ++ again prompt.now line.now) }
 {
     out.put(question());
-    put_help(grammar, ending, line, names, rules, out);
+    put_help(grammar, fields, ending, line, names, rules, out);
     put_again(prompt, line, out);
 }
 
@@ -173,22 +177,62 @@ pub(crate) fn put_inserted<S: Sink>(bytes: &[u8], rings_bell: bool, out: &mut Wr
 }
 
 // Ends the line on the screen, and shows what a refused line shows.
-pub(crate) fn put_end<S: Sink>(ending: Ending, out: &mut Writer<'_, S>)
-    ensures { Writes S.Sink out.old out.new (end_of_line ++ complaint ending) }
+pub(crate) fn put_end<S: Sink>(
+    grammar: &Grammar,
+    line: &[u8],
+    ending: Ending,
+    out: &mut Writer<'_, S>,
+)
+    ensures { Writes S.Sink out.old out.new (end_of_line ++ complaint grammar.now line.now ending) }
 {
     out.put(end_of_line());
-    put_complaint(ending, out);
+    put_complaint(grammar, line, ending, out);
 }
 
 // Shows what a refused line shows.
 #[tactic(auto, using(cm_io::proofs::Texts::writes_none), unfolding(crate::specs::Echo::complaint))]
-fn put_complaint<S: Sink>(ending: Ending, out: &mut Writer<'_, S>)
-    ensures { Writes S.Sink out.old out.new (complaint ending) }
+fn put_complaint<S: Sink>(grammar: &Grammar, line: &[u8], ending: Ending, out: &mut Writer<'_, S>)
+    ensures { Writes S.Sink out.old out.new (complaint grammar.now line.now ending) }
 {
     match ending {
         Ending::Open(_) | Ending::Done => {}
-        Ending::Fault(fault) => put_refusal(fault.code, out),
+        Ending::Fault(fault) => {
+            if usize::from(fault.at) == line.len() {
+                put_omission(grammar, fault, out);
+            } else {
+                put_refusal(fault.code, out);
+            }
+        }
     }
+}
+
+// Shows why a line is refused that ends before the field.
+fn put_omission<S: Sink>(grammar: &Grammar, fault: Fault, out: &mut Writer<'_, S>)
+    ensures { Writes S.Sink out.old out.new
+        (omission (awaited (slice_get grammar.now.nodes fault.node)) fault.code) }
+{
+    if fault.node >= grammar.nodes() {
+        return put_refusal(fault.code, out);
+    }
+    match &grammar.node(fault.node).awaits {
+        Some(name) => put_missing(name, out),
+        None => put_refusal(fault.code, out),
+    }
+}
+
+#[tactic(auto, unfolding(crate::specs::Echo::missing))]
+fn missing() -> &'static [u8]
+    ensures { result.now ≡ missing }
+{
+    b"?Missing "
+}
+
+// Shows what a line is missing.
+fn put_missing<S: Sink>(name: &Name, out: &mut Writer<'_, S>)
+    ensures { Writes S.Sink out.old out.new (missing ++ (name.now ++ end_of_line)) }
+{
+    out.put(missing());
+    out.put_line(name.as_bytes());
 }
 
 /// Shows why a line is refused: `?`, the text of the code, and the end of the line. So a program refuses what a

@@ -3,7 +3,7 @@
 
 ghost use Rattle.std.specs.Prelude.{◌≡◌};
 ghost use Rattle.cm_io.specs.Writer.{Writes};
-ghost use Rattle.cm_state.specs.Log.{day_log, default_log, ending_log, fault_log, field_log, fields_log, file_log, hook_log, marked, value_log};
+ghost use Rattle.cm_state.specs.Log.{day_log, default_log, ending_log, fault_log, field_log, fields_log, file_log, hook_log, integer_log, marked, value_log};
 
 use crate::stack::Stack;
 use cm_blocks::{Ending, Fault, Field};
@@ -54,6 +54,19 @@ fn put_day<S: Sink>(day: i32, out: &mut Writer<'_, S>)
     }
 }
 
+// Puts a number of a radix.
+#[tactic(auto, unfolding(crate::specs::Log::integer_log))]
+fn put_integer<S: Sink>(number: i64, out: &mut Writer<'_, S>)
+    ensures { Writes S.Sink out.old out.new (integer_log number) }
+{
+    let size = number.unsigned_abs();
+    if number < 0 {
+        put_marked(b"#-", size, out);
+    } else {
+        put_marked(b"#", size, out);
+    }
+}
+
 // Puts what a hook made of a field.
 #[tactic(auto, using(cm_io::proofs::Texts::texts), unfolding(crate::specs::Log::hook_log))]
 fn put_hook<S: Sink>(id: u8, value: u64, out: &mut Writer<'_, S>)
@@ -86,6 +99,7 @@ fn put_value<S: Sink>(value: Value, out: &mut Writer<'_, S>)
         Value::Noise(true) => out.put(b"n1"),
         Value::Noise(false) => out.put(b"n0"),
         Value::Number(number) => put_marked(b"#", number, out),
+        Value::Integer(number) => put_integer(number, out),
         Value::Word(_) => out.put(b"w"),
         Value::Quoted(_) => out.put(b"q"),
         Value::Token => out.put(b"t"),

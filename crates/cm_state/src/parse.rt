@@ -1,14 +1,16 @@
 // The parse of a text, after the fields that are known already.
 ghost use Rattle.std.specs.Prelude.{◌≡◌, ◌+◌, ◌-◌, ◌<◌, ◌≤◌, length};
 ghost use Rattle.cm_text.specs.declared.text.TheConstants.{TEXT_LIMIT};
+ghost use Rattle.cm_fields.specs.declared.code.Code.TheVariants.{Repeated};
 ghost use Rattle.cm_blocks.specs.KeptParse.{cost_after};
 ghost use Rattle.cm_blocks.specs.declared.field.Chain.TheVariants as chain;
+ghost use Rattle.cm_blocks.specs.declared.field.Ending.TheVariants as ending;
 ghost use Rattle.cm_blocks.specs.Parse.{ending_of, parse_of};
 ghost use Rattle.cm_blocks.specs.Setting.{setting};
 ghost use Rattle.cm_state.specs.Stack.{Starts};
 
 use crate::stack::Stack;
-use cm_blocks::{Chain, Ending, FIELD_LIMIT, Fault, Field, Grammar, Steps, try_chain};
+use cm_blocks::{Chain, Ending, FIELD_LIMIT, Fault, Field, Grammar, Steps, repeats, try_chain};
 use cm_fields::Code;
 use cm_files::Names;
 use cm_hooks::Rules;
@@ -20,6 +22,17 @@ fn too_many(field: &Field) -> Ending
 {
     Ending::Fault(Fault {
         code: Code::TooMany,
+        node: field.node(),
+        at: field.start(),
+    })
+}
+
+// How a parse ends whose next field repeats an option.
+fn repeated(field: &Field) -> Ending
+    ensures { result ≡ ending.Fault (record { code = Repeated; node = field.now.node; at = field.now.start }) }
+{
+    Ending::Fault(Fault {
+        code: Code::Repeated,
         node: field.node(),
         at: field.start(),
     })
@@ -49,6 +62,9 @@ pub(crate) fn parse_rest<N: Names, R: Rules, L: Ledger>(
     loop {
         match try_chain(grammar, node, text, at, names, rules, steps) {
             Chain::Field(field) => {
+                if repeats(grammar, fields.places(), &field) {
+                    return repeated(&field);
+                }
                 if usize::from(fields.len()) == FIELD_LIMIT {
                     return too_many(&field);
                 }

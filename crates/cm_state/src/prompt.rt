@@ -10,6 +10,6 @@ pub enum Prompt {
     Sub,
     /// A text of the program's own.
     Own(&'static str),
-    /// A name that is made while the program runs, and the byte after it, as `host(config-if)#`.
-    Named(Label, u8),
+    /// A name that is made while the program runs, and what follows it, as `host(config-if)#` or `host> `.
+    Named(Label, Label),
 }

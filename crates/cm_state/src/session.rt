@@ -317,15 +317,22 @@ impl Session {
                 put_taken(keystroke.joins, &self.prompt, keystroke.size, line, out)
             }
             KeyClass::Show => put_again(&self.prompt, line, out),
-            KeyClass::Help => {
-                put_help_and_line(grammar, self.ending, &self.prompt, line, names, rules, out)
-            }
+            KeyClass::Help => put_help_and_line(
+                grammar,
+                self.fields.places(),
+                self.ending,
+                &self.prompt,
+                line,
+                names,
+                rules,
+                out,
+            ),
             KeyClass::Back if keystroke.restores => put_screen_line(line, out),
             KeyClass::Escape => put_inserted(after, keystroke.rings_bell, out),
             KeyClass::Part => put_inserted(after, keystroke.rings_bell, out),
             KeyClass::Stop => out.put_line(control_c()),
             KeyClass::Join => out.put(end_of_line()),
-            KeyClass::End => put_end(self.ending, out),
+            KeyClass::End => put_end(grammar, line, self.ending, out),
             _ => out.put(bell()),
         }
     }

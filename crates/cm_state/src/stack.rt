@@ -1,6 +1,7 @@
 // The fields that a session holds.
 ghost use Rattle.std.specs.Prelude.{◌≡◌, ◌-◌, ◌≤◌, ◌<◌, ◌++◌, ◌∷◌, [], IfNone, IfSome, Some, length, slice_get};
 ghost use Rattle.cm_blocks.specs.KeptParse.{decided_within};
+ghost use Rattle.cm_blocks.specs.Once.{fields_at};
 ghost use Rattle.cm_blocks.specs.Parse.{node_after, place_after};
 ghost use Rattle.cm_state.specs.Stack.{first_decided_within};
 
@@ -56,6 +57,13 @@ impl Stack {
             Some(field) => field,
             None => unreachable!(),
         }
+    }
+
+    // Their places, each of which has one.
+    pub(crate) fn places(&self) -> &[Option<Field>]
+        ensures { fields_at result.now ≡ self.now }
+    {
+        &self.fields
     }
 
     // Puts one after the others.

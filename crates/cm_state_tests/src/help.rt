@@ -22,6 +22,7 @@ pub(crate) fn shown(
     let mut screen = MemSink::new(alloc, 4096)?;
     let put = help(
         grammar,
+        &[],
         ending,
         line.bytes(),
         &Cabinet,
@@ -135,6 +136,29 @@ fn tells_what_a_keyword_is_for(rt: HostRuntime) -> Result<(), Fail> {
     tries(&rt, rt.alloc(), Question::Help, cases)
 }
 
+#[test]
+fn lists_keywords_as_the_table_has_them(rt: HostRuntime) -> Result<(), Fail> {
+    let cases = "\
+40.0@0|| one of the following:\r
+  3com\r
+  interface\r
+  Internet\r
+  Router  the name\r
+  SHORT\r
+  show\r
+ or one of the following:\r
+  /all\r
+  /Before:
+
+40.0@0|INT| one of the following:\r
+  interface\r
+  Internet
+
+40.1@0|/BE| one of the following:\r
+  /Before:";
+    tries(&rt, rt.alloc(), Question::Help, cases)
+}
+
 // [question-mark]
 #[test]
 fn tells_why_there_is_nothing_to_come(rt: HostRuntime) -> Result<(), Fail> {
@@ -152,5 +176,49 @@ done||
 99.0@0||
 
 20.0@2|A|";
+    tries(&rt, rt.alloc(), Question::Help, cases)
+}
+
+// Names stand in columns, as wide as the longest that is listed, along rows of at most 78 bytes. Those past the first
+// 60 are counted.
+#[test]
+fn lists_the_names_of_a_field(rt: HostRuntime) -> Result<(), Fail> {
+    let cases = "\
+32.0@0|| port\r
+  eth0      eth0.100  1/2
+
+32.0@0|eth| port\r
+  eth0      eth0.100
+
+32.0@0|ETH0.| port\r
+  eth0.100
+
+32.0@0|1| port\r
+  1/2
+
+32.0@0|x| port
+
+33.0@0|| \r
+  lamp  lamp  lamp  lamp  lamp  lamp  lamp  lamp  lamp  lamp  lamp  lamp  lamp\r
+  lamp  lamp  lamp  lamp  lamp  lamp  lamp  lamp  lamp  lamp  lamp  lamp  lamp\r
+  lamp  lamp  lamp  lamp  lamp  lamp  lamp  lamp  lamp  lamp  lamp  lamp  lamp\r
+  lamp  lamp  lamp  lamp  lamp  lamp  lamp  lamp  lamp  lamp  lamp  lamp  lamp\r
+  lamp  lamp  lamp  lamp  lamp  lamp  lamp  lamp\r
+  and 1 more
+
+33.0@0|x| 
+
+34.0@0|a| \r
+  a234567890123456789012345678901234567  a234567890123456789012345678901234568
+
+34.0@0|b| \r
+  b2345678901234567890123456789012345678\r
+  b2345678901234567890123456789012345679
+
+34.0@0|| \r
+  a234567890123456789012345678901234567\r
+  a234567890123456789012345678901234568\r
+  b2345678901234567890123456789012345678\r
+  b2345678901234567890123456789012345679";
     tries(&rt, rt.alloc(), Question::Help, cases)
 }

@@ -22,7 +22,7 @@ pub(crate) fn put_in(
     line: &Line,
     grammar: &Grammar,
 ) -> Result<String, Fail> {
-    let put = complete(grammar, ending, line.bytes(), &Cabinet, &Judges, mode);
+    let put = complete(grammar, &[], ending, line.bytes(), &Cabinet, &Judges, mode);
     let bell = if put.bell { "bell" } else { "" };
     Ok(format!(in alloc; "{}|{bell}", str::from_utf8(put.bytes.as_slice())?)?)
 }
@@ -45,6 +45,31 @@ fn keywords_go_on(rt: HostRuntime) -> Result<(), Fail> {
 0.0@0|X||bell
 0.0@3|!x!CO|PY (FROM) |
 99.0@0|CO||bell";
+    tries(&rt, rt.alloc(), Question::Completion(Mode::Escape), cases)
+}
+
+// What is missing goes in as the table has it, but after capitals alone in capitals.
+#[test]
+fn keywords_go_on_in_their_letters(rt: HostRuntime) -> Result<(), Fail> {
+    let cases = "\
+40.0@0|interf|ace |
+40.0@0|Interf|ace |
+40.0@0|INTERF|ACE |
+40.0@0|INTERf|ace |
+40.0@0|i|nter|bell
+40.0@0|I|NTER|bell
+40.0@0|inter||bell
+40.0@0|r|outer |
+40.0@0|R|OUTER |
+40.0@0|Ro|uter |
+40.0@0|s|HO|bell
+40.0@0|Shor|T |
+40.0@0|SHOW| |
+40.0@0|3|com |
+40.0@0|3C|OM |
+40.1@0|/b|efore:|
+40.1@0|/B|EFORE:|
+40.1@0|/A|LL |";
     tries(&rt, rt.alloc(), Question::Completion(Mode::Escape), cases)
 }
 
@@ -80,7 +105,7 @@ fn phrases_go_on(rt: HostRuntime) -> Result<(), Fail> {
 }
 
 // A quoted text goes on where it is closed, and the default is where nothing is typed. Hook 2 judges alone, and
-// hook 1 goes on.
+// hook 1 goes on, hook 4 over a point.
 #[test]
 fn values_go_on(rt: HostRuntime) -> Result<(), Fail> {
     let cases = "\
@@ -93,7 +118,10 @@ fn values_go_on(rt: HostRuntime) -> Result<(), Fail> {
 6.0@0|AB| |
 6.0@0|ABC||bell
 7.0@0|AB|Z|bell
-7.0@0|||bell";
+7.0@0|||bell
+32.0@0|eth0|.100|bell
+32.0@0|eth0.100|.100|bell
+32.0@0|1/2|.100|bell";
     tries(&rt, rt.alloc(), Question::Completion(Mode::Escape), cases)
 }
 

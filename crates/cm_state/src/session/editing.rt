@@ -62,14 +62,14 @@ impl Session {
         ensures edited { self.new ≡ record self.old {
           line = edit class key self.old.line self.old.recall
               (completion (setting grammar.now (N.catalogue names.now) (R.meanings rules.now))
-              class self.old.ending self.old.line).bytes;
+              class self.old.fields self.old.ending self.old.line).bytes;
           is_finished = is_end class;
           recall = None;
         } }
         ensures front { result.front ≡ common self.old.line (text_of self.new) }
         ensures bell { result.rings_bell
             ≡ (completion (setting grammar.now (N.catalogue names.now) (R.meanings rules.now))
-            class self.old.ending self.old.line).bell }
+            class self.old.fields self.old.ending self.old.line).bell }
     {
         match class {
             KeyClass::Escape => self.insert(Mode::Escape, grammar, names, rules),
@@ -92,16 +92,24 @@ impl Session {
         requires open { self.old.is_finished ≡ false }
         ensures inserted { self.new ≡ record self.old {
           line = self.old.line ++ (insertion (setting grammar.now (N.catalogue names.now) (R.meanings rules.now))
-              self.old.ending self.old.line mode).bytes;
+              self.old.fields self.old.ending self.old.line mode).bytes;
           recall = None;
         } }
         ensures front { result.front ≡ common self.old.line self.new.line }
         ensures bell { result.rings_bell
             ≡ (insertion (setting grammar.now (N.catalogue names.now) (R.meanings rules.now))
-            self.old.ending self.old.line mode).bell }
+            self.old.fields self.old.ending self.old.line mode).bell }
     {
         let front = self.line.bytes().len();
-        let insertion = complete(grammar, self.ending, self.line.bytes(), names, rules, mode);
+        let insertion = complete(
+            grammar,
+            self.fields.places(),
+            self.ending,
+            self.line.bytes(),
+            names,
+            rules,
+            mode,
+        );
         self.line.append(insertion.bytes.as_slice());
         self.recall.forget();
         Change {

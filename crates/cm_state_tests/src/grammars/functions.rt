@@ -1,5 +1,6 @@
 // What blocks read.
 use cm_blocks::Function;
+use cm_fields::{Numbers, Radix};
 use cm_text::{ByteSet, NAME_LIMIT, Name};
 
 // A name with this text. None where it is too long.
@@ -17,7 +18,8 @@ pub(crate) fn some_name(text: &str) -> Option<Name> {
 
 // The functions that are told by their names alone.
 const PLAIN: &str =
-    "number word quoted date text comma confirm user directory infile outfile address path spaced anyfile";
+    "number word quoted date text comma confirm user directory infile outfile address path spaced decimal octal \
+    hexadecimal longquoted anyfile";
 
 // A function: its name, and after a space the number or the text that it reads.
 pub(crate) fn function(text: &str) -> Option<Function> {
@@ -68,6 +70,19 @@ fn plain(kind: &str) -> Option<Function> {
                 .with_range(b'a', b'z'),
         ),
         13 => Function::Run(ByteSet::of(b" ").with_range(b'a', b'z')),
+        14 => numbers(Radix::Decimal, true, -5, 7),
+        15 => numbers(Radix::Octal, false, 0, 511),
+        16 => numbers(Radix::Hexadecimal, false, 10, 65_535),
+        17 => Function::LongQuoted,
         _ => Function::AnyFile,
+    })
+}
+
+fn numbers(radix: Radix, signed: bool, least: i64, most: i64) -> Function {
+    Function::Numeral(Numbers {
+        radix,
+        signed,
+        least,
+        most,
     })
 }

@@ -25,13 +25,16 @@ fn line_of(text: &str, number: u16) -> Option<&str> {
     None
 }
 
-// A node: its blocks, and after ` = ` its default. One before whose blocks stands `raw` has no comments.
+// A node: its blocks, after ` = ` its default, and after ` ~ ` what it says that it awaits. One before whose blocks
+// stands `raw` has no comments.
 fn node(alloc: Global, text: &str) -> Result<Node, Fail> {
+    let (text, awaits) = text.split_once(" ~ ").unwrap_or((text, ""));
     let (blocks, default) = text.split_once(" = ").unwrap_or((text, ""));
     Ok(Node {
         chain: Blocks::new(chain(alloc, blocks.strip_prefix("raw ").unwrap_or(blocks))?),
         default: some_name(default),
         raw: blocks.starts_with("raw "),
+        awaits: some_name(awaits),
     })
 }
 
@@ -43,7 +46,8 @@ fn chain(alloc: Global, text: &str) -> Result<Vec<Block>, Fail> {
     Ok(blocks)
 }
 
-// A block: its function, after ` > ` the node that follows, its role and its flags, and after ` ? ` its help.
+// A block: its function, after ` > ` the node that follows, its role and its flags, among them `once`, and after ` ? `
+// its help.
 fn block(text: &str) -> Option<Block> {
     let (text, help) = text.split_once(" ? ").unwrap_or((text, ""));
     let (kind, rest) = text.split_once(" > ")?;
@@ -54,6 +58,7 @@ fn block(text: &str) -> Option<Block> {
         help: some_name(help),
         role: role(marks),
         next: next.parse().ok()?,
+        once: marks.contains("once"),
     })
 }
 

@@ -53,8 +53,8 @@ JOBNAME: 4 43
 NOTE: 5 44";
 
 // Nodes 0 to 8 read fields but files, 9 and 19 dates, 10 to 18 users, directories and files. Node 20 has a block of
-// each kind, 21 and 22 are after its guide words, 23 has words of its own, 28 has keywords with a help, and the
-// others end the line or lead there.
+// each kind, 21 and 22 are after its guide words, 23 has words of its own, 28 has keywords with a help, 32 to 34
+// list names, 40 has keywords in small letters, and the others end the line or lead there.
 pub(crate) const FIELD_NODES: &str = "\
 0 key 0 > 0
 1 noise FROM > 2
@@ -88,7 +88,11 @@ pub(crate) const FIELD_NODES: &str = "\
 28 key 4 > 24 / switch 5 > 24
 29 address > 30 ? address and prefix
 30 path > 24
-31 spaced > 24";
+31 spaced > 24
+32 hook 4 > 24
+33 hook 5 > 24
+34 hook 6 > 24
+40 key 6 > 24 / switch 7 > 24";
 
 pub(crate) const FIELD_TABLES: &str = "\
 COPY 0 1
@@ -118,13 +122,36 @@ NAME 0 24 ? a room (again)
 
 BY: 0 24 ? how many levels
 FAST 0 24 ? at once
-ONCE: 0 24";
+ONCE: 0 24
 
-// An address with the length of its prefix, and a path.
+3com 0 24
+interface 0 24
+Internet 0 24
+Router 0 24 ? the name
+SHORT 0 24
+show 0 24
+
+all 0 24
+Before: 0 24";
+
+// An address with the length of its prefix, whose node says what it awaits, and a path.
 pub(crate) const ADDRESS_NODES: &str = "\
-0 address > 1 What ? address and prefix
+0 address > 1 What ? address and prefix ~ network address
 1 path > 2 Value
 2 confirm > 2";
+
+// The name of a port.
+pub(crate) const PORT_NODES: &str = "\
+0 hook 4 > 1
+1 confirm > 1";
+
+// Numbers of each radix, of which the first have a sign, and a quoted text as long as the line.
+pub(crate) const NUMBER_NODES: &str = "\
+0 decimal > 1
+1 octal > 2
+2 hexadecimal > 3
+3 longquoted > 4
+4 confirm > 4";
 
 // A word, a number, a quoted text and the rest of the line, of two roles, each with a default; and after a comma a
 // file that is there and a directory that may be new.
@@ -136,3 +163,30 @@ pub(crate) const SAID_NODES: &str = "\
 4 infile > 5
 5 directory > 6 new
 6 confirm > 6";
+
+// A command with options, keywords and switches, of which a line has each once. The keywords of node 5 are none.
+pub(crate) const OPTION_NODES: &str = "\
+0 key 0 > 1 Verb
+1 confirm > 0 / key 1 > 1 once / switch 2 > 1 once
+2 number > 1
+3 number > 1
+4 word > 1
+5 confirm > 0 / key 1 > 1
+6 confirm > 0 / key 3 > 6 once";
+
+pub(crate) const OPTION_TABLES: &str = "\
+ADD 8 6
+SET 9 1
+
+COMMENT 1 4
+MTU 2 2
+SPEED 3 3
+
+FAST 4 1
+LIMIT: 5 2
+
+COST 1 6
+COUNT 2 6
+N 0 6 4
+NAME 3 6
+NUMBER 4 6";

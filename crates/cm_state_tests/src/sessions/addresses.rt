@@ -43,3 +43,29 @@ eth0?|Edited|@eth0? Field is missing\r
 3f 4 F8.0@0";
     tries(&rt, &rt, Question::Keys, addresses(rt.alloc())?, cases)
 }
+
+// A line that ends before a field whose node says what it awaits is refused by that; one that has another text there,
+// or ends before a field of another node, by the code.
+#[test]
+fn tells_what_is_missing(rt: HostRuntime) -> Result<(), Fail> {
+    let cases = "\
+\r|Refused(Fault { code: NoField, node: 0, at: 0 })|@\r
+?Missing network address\r
+@|0d 0 F8.0@0
+
+  \n|Refused(Fault { code: NoField, node: 0, at: 2 })|@  \r
+?Missing network address\r
+@|
+0a 2 F8.0@2
+
+eth0\r|Refused(Fault { code: NoField, node: 0, at: 0 })|@eth0\r
+?Field is missing\r
+@|
+0d 4 F8.0@0
+
+10.0.0.1/8\r|Refused(Fault { code: NoField, node: 1, at: 10 })|@10.0.0.1/8\r
+?Field is missing\r
+@|
+0d 10 F8.1@10 0.0w@0-10";
+    tries(&rt, &rt, Question::Keys, addresses(rt.alloc())?, cases)
+}

@@ -15,17 +15,18 @@ use std::process::Abort;
 use std::sync::ledger::Ledger;
 use std::test::Fail;
 
-// The prompt of a name, with one mark after it.
-fn prompt_of(rt: &impl Abort, name: &str) -> Prompt {
-    assert!(rt; name.len() <= NAME_LIMIT, "{name} is too long");
-    Prompt::Named(Label::of(&Name::new(name)), b'#')
+// A name, or what follows it.
+fn label_of(rt: &impl Abort, text: &str) -> Label {
+    assert!(rt; text.len() <= NAME_LIMIT, "{text} is too long");
+    Label::of(&Name::new(text))
 }
 
-// A name, keys, and what is shown.
-fn parts(case: &str) -> Option<(&str, &str, &str)> {
+// A prompt, with a bar between the name and what follows it; keys, and what is shown.
+fn parts(case: &str) -> Option<(&str, &str, &str, &str)> {
     let (name, rest) = case.split_once('|')?;
+    let (after, rest) = rest.split_once('|')?;
     let (keys, wanted) = rest.split_once('|')?;
-    Some((name, keys, wanted))
+    Some((name, after, keys, wanted))
 }
 
 pub(crate) fn try_case<L: Ledger>(
@@ -37,8 +38,8 @@ pub(crate) fn try_case<L: Ledger>(
 ) -> Result<(), Fail>
     requires nodes { 0 < length grammar.now.nodes }
 {
-    let (name, keys, wanted) = parts(case).ok_or("a case")?;
-    let prompt = prompt_of(rt, name);
+    let (name, after, keys, wanted) = parts(case).ok_or("a case")?;
+    let prompt = Prompt::Named(label_of(rt, name), label_of(rt, after));
     let run = run_after(rt, alloc, prompt, keys, grammar, &Cabinet, &Judges, steps)?;
     assert_eq!(rt; str::from_utf8(run.shown())?, wanted, "at {case}");
     Ok(())
@@ -46,43 +47,55 @@ pub(crate) fn try_case<L: Ledger>(
 
 // [prompt]
 // At the beginning, after control-R and `?`, where a join byte is taken away, and after a line that is over; with
-// names of no byte, of one and of as many as a name has.
+// names of no byte, of one and of as many as a name has, and with no byte, one, two and as many after them.
 #[test]
-fn shows_names_and_marks(rt: HostRuntime) -> Result<(), Fail> {
+fn shows_names_and_what_follows(rt: HostRuntime) -> Result<(), Fail> {
     let cases = "\
-host||host#
+host|#||host#
 
-host|INF X\x12V|host#INF X\r
+host|#|INF X\x12V|host#INF X\r
 host#INF XV
 
-host|INF ?V|host#INF ? guide word (ABOUT)\r
+host|#|INF ?V|host#INF ? guide word (ABOUT)\r
  or one of the following:\r
   VERSION\r
 host#INF V
 
-host|INF -\rV\x15|host#INF -\r
+host|#|INF -\rV\x15|host#INF -\r
 V\r
 host#
 
-host|LOGOUT\rA|host#LOGOUT\r
+host|#|LOGOUT\rA|host#LOGOUT\r
 host#A
 
-host|A\x03B|host#A^C\r
+host|#|A\x03B|host#A^C\r
 host#B
 
-|INF\x12|#INF\r
+|#|INF\x12|#INF\r
 #INF
 
-R|INF\x12|R#INF\r
+R|#|INF\x12|R#INF\r
 R#INF
 
-[R]|INF\x12|[R]#INF\r
+[R]|#|INF\x12|[R]#INF\r
 [R]#INF
 
-[R]|INF ?|[R]#INF ? guide word (ABOUT)\r
+[R]|#|INF ?|[R]#INF ? guide word (ABOUT)\r
  or one of the following:\r
   VERSION\r
-[R]#INF ";
+[R]#INF 
+
+host|> |INF X\x12|host> INF X\r
+host> INF X
+
+host||INF\x12|hostINF\r
+hostINF
+
+||INF\x12|INF\r
+INF
+
+[R]|[>]|INF\x12|[R][>]INF\r
+[R][>]INF";
     tries(
         &rt,
         &rt,

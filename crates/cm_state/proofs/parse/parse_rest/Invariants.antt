@@ -11,8 +11,8 @@ invariant-loop-field g l =
     let s = setting l.grammar (g.N.Names.catalogue l.names) (g.R.Rules.meanings l.rules) in
     let room = FIELD_LIMIT - length l.fields in
     record {
-      parse : with_fields l.fields (parse_from s l.text room l.node l.at) ≡ parse_of s l.start l.text;
-      steps : l.steps + cost_from s l.text room l.node l.at ≡ l.fn.steps + cost_after s l.start l.text l.fn.fields;
+      parse : with_fields l.fields (parse_from s l.text l.fields room l.node l.at) ≡ parse_of s l.start l.text;
+      steps : l.steps + cost_from s l.text l.fields room l.node l.at ≡ l.fn.steps + cost_after s l.start l.text l.fn.fields;
       node : l.node < length l.grammar.nodes;
       place : l.at ≤ length l.text;
       few : length l.fields ≤ FIELD_LIMIT;
