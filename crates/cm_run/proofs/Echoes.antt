@@ -1,5 +1,6 @@
 -- What the echo of a key makes of a display that shows prompt and line.
 use Rattle.std.proofs.Common.{◌≡◌, ℕ, ◌-◌, ◌≤◌, ◌==◌, Bool, true, false, List, [], ◌∷◌, ◌++◌, length, take, drop, map, nat_lt, Option, Some, None, IfSome, is_some, unwrap_or, if◌then◌else◌, inl, inr, refl, ap, sym, subst, ◌∙◌, arith, append_assoc, append-nil, length-append}
+use Rattle.std.specs.Prelude.{slice_get}
 use Rattle.std.proofs.lemmas.Bool.Decides.{nat_tests}
 use Rattle.std.specs.List.{AllByRecursion}
 use Rattle.std.proofs.lemmas.List.{length-drop, length-map, length-take, take-append-drop, take_all}
@@ -17,18 +18,20 @@ use Rattle.cm_line.specs.declared.key.KeyClass.TheVariants.{Text, End, Join, Rub
 use Rattle.cm_line.specs.Keys.{class_at, is_end}
 use Rattle.cm_line.proofs.ClassLaws.{text_at}
 use Rattle.cm_line.specs.Word.{unblanked, without_word, word_start}
+use Rattle.cm_fields.specs.declared.code.Code.{Code}
 use Rattle.cm_fields.specs.Code.{code_text}
 use Rattle.cm_blocks.specs.declared.field.Ending.{Ending}
 use Rattle.cm_blocks.specs.declared.field.Ending.TheVariants as ending
 use Rattle.cm_blocks.specs.Parse.{parse_of}
 use Rattle.cm_blocks.specs.FieldView.{FieldView}
+use Rattle.cm_blocks.specs.Grammar.{Graph}
 use Rattle.cm_blocks.specs.Setting.{Setting}
 use Rattle.cm_help.specs.Help.{help_text}
 use Rattle.cm_recognise.specs.declared.insertion.Mode.TheVariants as modes
 use Rattle.cm_recognise.proofs.Lines.{insertion_is_typed, insertion_on_screen}
 use Rattle.cm_state.specs.declared.prompt.Prompt.{Prompt}
 use Rattle.cm_state.specs.declared.prompt.Prompt.TheVariants.{Main, Sub}
-use Rattle.cm_state.specs.Echo.{again, complaint, echo, echo_of, has_join, prompt_text, refusal, ring, screen_line, taken_away, takes_join, with_prompt}
+use Rattle.cm_state.specs.Echo.{again, awaited, complaint, echo, echo_of, has_join, missing, omission, prompt_text, refusal, ring, screen_line, taken_away, takes_join, with_prompt}
 use Rattle.cm_state.specs.Edit.{before_fault, completed, completion, edit, edited, edited_as}
 use Rattle.cm_state.specs.SessionState.{SessionState, at_start, line_before}
 use Rattle.cm_state.proofs.Lines.{edited_is_line, edited_recall_is_line, edited_recall_after_an_end, prefix_is_line}
@@ -65,17 +68,17 @@ pub record Completes (bytes : List ℕ) : Type 0 where
   pub plain : AllByRecursion (λ byte. is_line_byte byte ≡ true) bytes
   pub shown : screen_line bytes ≡ bytes
 
-completion_completes : (s : Setting) → IsSound s → (class : KeyClass) (ends : Ending) (line : List ℕ)
-    → Completes (completion s class ends line).bytes
-completion_completes s sound Escape ends line = record {
-  plain = texts_in_line _ (insertion_is_typed s sound.grammar sound.catalogue sound.tables sound.meanings ends line modes.Escape);
-  shown = insertion_on_screen s sound.grammar sound.catalogue sound.tables sound.meanings ends line modes.Escape;
+completion_completes : (s : Setting) → IsSound s → (class : KeyClass) (fields : List FieldView) (ends : Ending) (line : List ℕ)
+    → Completes (completion s class fields ends line).bytes
+completion_completes s sound Escape fields ends line = record {
+  plain = texts_in_line _ (insertion_is_typed s sound.grammar sound.catalogue sound.tables sound.meanings fields ends line modes.Escape);
+  shown = insertion_on_screen s sound.grammar sound.catalogue sound.tables sound.meanings fields ends line modes.Escape;
 }
-completion_completes s sound Part ends line = record {
-  plain = texts_in_line _ (insertion_is_typed s sound.grammar sound.catalogue sound.tables sound.meanings ends line modes.Part);
-  shown = insertion_on_screen s sound.grammar sound.catalogue sound.tables sound.meanings ends line modes.Part;
+completion_completes s sound Part fields ends line = record {
+  plain = texts_in_line _ (insertion_is_typed s sound.grammar sound.catalogue sound.tables sound.meanings fields ends line modes.Part);
+  shown = insertion_on_screen s sound.grammar sound.catalogue sound.tables sound.meanings fields ends line modes.Part;
 }
-completion_completes s sound class ends line = record { plain = tt; shown = refl }
+completion_completes s sound class fields ends line = record { plain = tt; shown = refl }
 
 -- a key leaves a session as clear as before
 pub key_clears : (s : Setting) → IsSound s → (held : SessionState) (key : ℕ) → IsClear held → IsClear (edited s held key)
@@ -249,15 +252,32 @@ module _ {D : Type 0} (feed : D → List ℕ → D) (Holds : D → List ℕ → 
       (ring_shown rings_bell (feed display bytes) row grows))
 
   -- the end of a line, with or without a complaint after it
-  pub end_shown : (display : D) (ends : Ending) → Holds (feed display (end_of_line ++ complaint ends)) []
-  unfolding complaint refusal
-  end_shown display (ending.Open place) = subst (λ bytes. Holds (feed display bytes) []) (sym (append-nil end_of_line)) (holds_end display [])
-  end_shown display ending.Done = subst (λ bytes. Holds (feed display bytes) []) (sym (append-nil end_of_line)) (holds_end display [])
-  end_shown display (ending.Fault fault) =
-      let text = code_text fault.code in
+  -- a text after another, on a line of its own
+  text_shown_below : (display : D) (front text : List ℕ)
+      → Holds (feed display (end_of_line ++ (front ++ (text ++ end_of_line)))) []
+  text_shown_below display front text =
       subst (λ bytes. Holds (feed display bytes) [])
-      (append_assoc (end_of_line ++ question) text end_of_line ∙ append_assoc end_of_line question (text ++ end_of_line))
-      (holds_end display ((end_of_line ++ question) ++ text))
+      (append_assoc (end_of_line ++ front) text end_of_line ∙ append_assoc end_of_line front (text ++ end_of_line))
+      (holds_end display ((end_of_line ++ front) ++ text))
+
+  refusal_shown : (display : D) (code : Code) → Holds (feed display (end_of_line ++ refusal code)) []
+  unfolding refusal
+  refusal_shown display code = text_shown_below display question (code_text code)
+
+  omission_shown : (display : D) (name : Option (List ℕ)) (code : Code)
+      → Holds (feed display (end_of_line ++ omission name code)) []
+  omission_shown display None code = refusal_shown display code
+  omission_shown display (Some name) code = text_shown_below display missing name
+
+  pub end_shown : (display : D) (graph : Graph) (line : List ℕ) (ends : Ending)
+      → Holds (feed display (end_of_line ++ complaint graph line ends)) []
+  unfolding complaint
+  end_shown display graph line (ending.Open place) = subst (λ bytes. Holds (feed display bytes) []) (sym (append-nil end_of_line)) (holds_end display [])
+  end_shown display graph line ending.Done = subst (λ bytes. Holds (feed display bytes) []) (sym (append-nil end_of_line)) (holds_end display [])
+  end_shown display graph line (ending.Fault fault) =
+      cond_each (λ bytes. Holds (feed display (end_of_line ++ bytes)) []) (fault.at == length line) _ _
+      (omission_shown display (awaited (slice_get graph.nodes fault.node)) fault.code)
+      (refusal_shown display fault.code)
 
   module _ (s : Setting) (key : ℕ) (display : D) (node : ℕ) (prompt : Prompt) (line : List ℕ) (recall : Option (List ℕ)) (rings_bell : Bool)
       (fields : List FieldView) (ends : Ending) where
@@ -279,7 +299,7 @@ module _ {D : Type 0} (feed : D → List ℕ → D) (Holds : D → List ℕ → 
         taken_shown display prompt line 0 (omega arith) printed is holds
     by_class Show inserted text printed is recall_is empty completes holds = again_shown display [] prompt line printed is
     by_class Help inserted text printed is recall_is empty completes holds =
-        again_shown display (question ++ help_text s ends line) prompt line printed is
+        again_shown display (question ++ help_text s fields ends line) prompt line printed is
     by_class Back inserted text printed is recall_is empty completes holds =
         recall_shown display (prompt_text prompt) line recall recall_is empty holds
     by_class Stop inserted text printed is recall_is empty completes holds = holds_end display control_c
@@ -288,7 +308,7 @@ module _ {D : Type 0} (feed : D → List ℕ → D) (Holds : D → List ℕ → 
     by_class Part inserted text printed is recall_is empty completes holds =
         inserted_shown display (prompt_text prompt) line inserted rings_bell completes holds
     by_class Join inserted text printed is recall_is empty completes holds = join_shown_after display (prompt_text prompt) line
-    by_class End inserted text printed is recall_is empty completes holds = end_shown display ends
+    by_class End inserted text printed is recall_is empty completes holds = end_shown display s.graph line ends
     by_class Other inserted text printed is recall_is empty completes holds =
         is_display.bells display (row_after (prompt_text prompt) line) holds
 
@@ -301,7 +321,7 @@ module _ {D : Type 0} (feed : D → List ℕ → D) (Holds : D → List ℕ → 
       let ends : Ending = (parse_of s held.node (line_before held)).ending in
       by_class s key display held.node held.prompt (line_before held) held.recall (completed s held class).bell _ _ class
       (completed s held class).bytes (text_at (line_before held) key) clear.prompt clear.line clear.recall clear.empty
-      (completion_completes s sound class ends (line_before held)) shows
+      (completion_completes s sound class (parse_of s held.node (line_before held)).fields ends (line_before held)) shows
 
   -- a line begins after its prompt
   pub start_shows : (display : D) → Holds display [] → (node : ℕ) (prompt : Prompt) (recall : Option (List ℕ)) → ArePrinted (prompt_text prompt)

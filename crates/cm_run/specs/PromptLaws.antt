@@ -1,5 +1,5 @@
 -- Prompts that are printed bytes.
-use Rattle.std.proofs.Common.{◌≡◌, ◌≤◌, ℕ, Bool, true, false, List, [], ◌∷◌, ◌++◌, length, refl, subst, sym}
+use Rattle.std.proofs.Common.{◌≡◌, ◌≤◌, ℕ, Bool, true, false, List, [], ◌∷◌, ◌++◌, length, refl, subst₂, sym}
 use Rattle.std.specs.Prelude.{if◌then◌else◌, None, Some}
 use Rattle.std.specs.List.{list_all}
 use Rattle.std.proofs.lemmas.Bool.{and_parts}
@@ -21,10 +21,10 @@ printed : (text : List ℕ) → list_all is_printed text ≡ true → ArePrinted
 printed [] all = tt
 printed (byte ∷ more) all = let parts = and_parts _ _ all in (parts.0, printed more parts.1)
 
--- a name of at most 39 bytes and the mark after it
-pub named_printed : (name : List ℕ) (mark : ℕ) → length name ≤ NAME_LIMIT
-    → list_all is_printed (name ++ mark ∷ []) ≡ true → ArePrinted (prompt_text (Named (label_of name) mark))
+-- a name and what follows it, each of at most 39 bytes
+pub named_printed : (name after : List ℕ) → length name ≤ NAME_LIMIT → length after ≤ NAME_LIMIT
+    → list_all is_printed (name ++ after) ≡ true → ArePrinted (prompt_text (Named (label_of name) (label_of after)))
 unfolding prompt_text
-named_printed name mark short all =
-    subst (λ (text : List ℕ). ArePrinted (text ++ mark ∷ [])) (sym (label_has_name name short))
-    (printed (name ++ mark ∷ []) all)
+named_printed name after short fits all =
+    subst₂ (λ (front rest : List ℕ). ArePrinted (front ++ rest)) (sym (label_has_name name short))
+    (sym (label_has_name after fits)) (printed (name ++ after) all)

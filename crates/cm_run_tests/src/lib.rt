@@ -6,6 +6,4 @@ mod grammars;
 #[cfg(test)]
 mod handed;
 mod panel;
-#[cfg(test)]
-mod parts;
 mod tally;
