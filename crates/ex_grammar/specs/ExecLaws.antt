@@ -12,14 +12,14 @@ forms_are_names : are_names forms ≡ true
 unfolding is_name is_word
 forms_are_names = refl
 
-rule_completes : (id : ℕ) (atom : List ℕ) → Completes (rule_verdict id) atom (rule_completion id atom)
+rule_completes : (id : ℕ) (atom : List ℕ) → Completes is_name (rule_verdict id) atom (rule_completion id atom)
 rule_completes id atom = by (id == 1) refl
   where
     by : (b : Bool) → (id == 1) ≡ b
-        → Completes (rule_verdict id) atom (cond b (completion_among forms atom) tails.None)
+        → Completes is_name (rule_verdict id) atom (cond b (completion_among forms atom) tails.None)
     by true is_one =
         let one : 1 ≡ id = grind (arith, nat_tests) in
-        subst (λ n. Completes (rule_verdict n) atom (completion_among forms atom)) one
+        subst (λ n. Completes is_name (rule_verdict n) atom (completion_among forms atom)) one
         (among_completes forms forms_are_names atom)
     by false other = tt
 

@@ -6,6 +6,7 @@ use Rattle.cm_hooks.specs.declared.answer.Answer.{Answer}
 use Rattle.cm_hooks.specs.declared.answer.Answer.TheVariants.{Yes, No}
 use Rattle.cm_hooks.specs.declared.answer.Tail.{Tail}
 use Rattle.cm_hooks.specs.declared.answer.Tail.TheVariants as tails
+use Rattle.cm_hooks.specs.FieldBytes.{name_bytes}
 use Rattle.cm_hooks.specs.Meanings.{Meanings}
 use Rattle.ex_grammar.specs.RetentionCount.{retention_verdict}
 
@@ -31,4 +32,10 @@ rule_help id =
     else (if id == 1 then codes "form name" else codes "number from 0 to 63")
 
 abbrev pub exec_meanings : Meanings
-exec_meanings = record { verdict = rule_verdict; completion = rule_completion; help = rule_help }
+exec_meanings = record {
+  bytes = λ id. name_bytes;
+  names = λ id. [];
+  verdict = rule_verdict;
+  completion = rule_completion;
+  help = rule_help;
+}

@@ -5,7 +5,7 @@ ghost use Rattle.ex_grammar.specs.ExecRules.{logical_verdict};
 use crate::retention::retention_verdict;
 use cm_files::is_logical_name;
 use cm_hooks::{Answer, Rules, Tail, completion_among, verdict_among};
-use cm_text::Name;
+use cm_text::{Name, is_name};
 
 // The names of forms, in the order of their numbers.
 const FORM_NAMES: [&str; 3] = ["NARROW", "NORMAL", "WIDE"];
@@ -20,6 +20,18 @@ impl Rules for ExecRules {
     ghost use Rattle.ex_grammar.specs.ExecRules.{exec_meanings};
 
     ghost meanings = { λ it. exec_meanings };
+
+    fn has_byte(&self, _id: u8, byte: u8) -> bool {
+        is_name(byte)
+    }
+
+    fn names(&self, _id: u8) -> usize {
+        0
+    }
+
+    fn name(&self, _id: u8, _number: usize) -> Option<Name> {
+        None
+    }
 
     fn verdict(&self, id: u8, atom: &[u8]) -> Answer {
         match id {

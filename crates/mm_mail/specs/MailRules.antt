@@ -1,8 +1,9 @@
 -- What mail says of its one kind of field, the number of a message.
-use Rattle.std.specs.Prelude.{ℕ, ◌&&◌, nat_le, nat_lt, if◌then◌else◌, List, codes}
+use Rattle.std.specs.Prelude.{ℕ, ◌&&◌, nat_le, nat_lt, if◌then◌else◌, List, [], codes}
 use Rattle.std.specs.Char.{is_ascii_digit}
 use Rattle.std.specs.List.{list_all}
 use Rattle.std.specs.Str.Parse.{digits_value}
+use Rattle.cm_hooks.specs.FieldBytes.{name_bytes}
 use Rattle.cm_hooks.specs.Meanings.{Meanings}
 use Rattle.cm_hooks.specs.declared.answer.Answer.{Answer}
 use Rattle.cm_hooks.specs.declared.answer.Answer.TheVariants.{No, Yes}
@@ -21,6 +22,8 @@ mail_help = codes "message number"
 -- each hook reads so, and completes nothing
 abbrev pub mail_meanings : Meanings
 mail_meanings = record {
+  bytes = λ id. name_bytes;
+  names = λ id. [];
   verdict = λ id atom. mail_verdict atom;
   completion = λ id atom. tails.None;
   help = λ id. mail_help;

@@ -3,7 +3,7 @@
 use crate::message_name::MOST_MESSAGES;
 use cm_fields::{are_digits, value_of};
 use cm_hooks::{Answer, Rules, Tail};
-use cm_text::Name;
+use cm_text::{Name, is_name};
 
 /// What mail says of its one kind of field, the number of a message: digits alone, of a value from 1 to 9999, which is
 /// the value of the field. It is not completed.
@@ -14,6 +14,18 @@ impl Rules for MailRules {
     ghost use Rattle.mm_mail.specs.MailRules.{mail_meanings};
 
     ghost meanings = { λ it. mail_meanings };
+
+    fn has_byte(&self, _id: u8, byte: u8) -> bool {
+        is_name(byte)
+    }
+
+    fn names(&self, _id: u8) -> usize {
+        0
+    }
+
+    fn name(&self, _id: u8, _number: usize) -> Option<Name> {
+        None
+    }
 
     #[tactic(auto, unfolding(crate::specs::MailRules::mail_verdict))]
     fn verdict(&self, _id: u8, atom: &[u8]) -> Answer {

@@ -4,7 +4,7 @@ ghost use Rattle.std.specs.Prelude.{◌≡◌, ◌<◌};
 use cm_blocks::{Chain, Grammar, Steps, try_chain};
 use cm_files::OneDirectory;
 use cm_hooks::{Answer, Rules, Tail};
-use cm_text::Name;
+use cm_text::{Name, is_name};
 use mm_mail::{MailRules, mail_grammar};
 use std::alloc::{AllocError, Global};
 use std::marker::Brand;
@@ -75,14 +75,29 @@ struct Sizes;
 
 impl Rules for Sizes {
     ghost use Rattle.std.specs.Prelude.{◌==◌, [], if◌then◌else◌, length};
+    ghost use Rattle.cm_hooks.specs.FieldBytes.{name_bytes};
     ghost use Rattle.cm_hooks.specs.declared.answer.Answer.TheVariants.{Yes, No};
     ghost use Rattle.cm_hooks.specs.declared.answer.Tail.TheVariants as tails;
 
     ghost meanings = { λ it. record {
+      bytes = λ id. name_bytes;
+      names = λ id. [];
       verdict = λ id atom. if length atom == 3 then No else Yes (length atom);
       completion = λ id atom. tails.None;
       help = λ id. [];
     } };
+
+    fn has_byte(&self, _id: u8, byte: u8) -> bool {
+        is_name(byte)
+    }
+
+    fn names(&self, _id: u8) -> usize {
+        0
+    }
+
+    fn name(&self, _id: u8, _number: usize) -> Option<Name> {
+        None
+    }
 
     fn verdict(&self, _id: u8, atom: &[u8]) -> Answer {
         match atom.len() {

@@ -115,7 +115,7 @@ fn named(rt: &impl Abort, text: &str) -> Prompt {
         name.len() <= NAME_LIMIT && name != text,
         "{text} is no prompt"
     );
-    Prompt::Named(Label::of(&Name::new(name)), b'#')
+    Prompt::Named(Label::of(&Name::new(name)), Label::of(&Name::new("#")))
 }
 
 // The bytes that a text says.

@@ -6,6 +6,7 @@ use Rattle.cm_tables.specs.Look.{look}
 use Rattle.cm_blocks.specs.Chain.{chain_at}
 use Rattle.cm_blocks.specs.Keyword.{entry_position}
 use Rattle.cm_blocks.specs.KeptParse.{cost, kept}
+use Rattle.cm_blocks.specs.Once.{repeats}
 use Rattle.cm_blocks.specs.Parse.{parse_of}
 use Rattle.cm_blocks.specs.Trial.{trial}
 use Rattle.cm_state.specs.Edit.{edited_as}
@@ -15,5 +16,5 @@ use Rattle.cm_run.specs.Trace.{keystroke_trace, line_keystroke, outcome_trace, r
 use Rattle.ex_program_tests.proofs.costs.lines_cost_their_trials.Goals as goal
 
 pub returns : goal.returns
-unfolding cost kept parse_of chain_at trial entry_position look begins_with equals is_blank is_name is_text is_word class_at class_of edited_as exec_graph exec_nodes first_nodes last_nodes append_blocks build_blocks define_blocks delete_blocks directory_nodes listing_nodes print_blocks retention_nodes set_blocks source_nodes switch_blocks target_blocks type_blocks command_entries exec_tables topic_entries line_keystroke outcome_trace run_trace step_of keystroke_trace turn_outcome
+unfolding cost kept parse_of repeats chain_at trial entry_position look begins_with equals is_blank is_name is_text is_word class_at class_of edited_as exec_graph exec_nodes first_nodes last_nodes append_blocks build_blocks define_blocks delete_blocks directory_nodes listing_nodes print_blocks retention_nodes set_blocks source_nodes switch_blocks target_blocks type_blocks command_entries exec_tables topic_entries line_keystroke outcome_trace run_trace step_of keystroke_trace turn_outcome
 returns c = λ state. (refl, refl, refl, refl)
