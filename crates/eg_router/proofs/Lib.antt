@@ -2,6 +2,4 @@ pub mod Completions
 pub mod Entries
 pub mod Faultless
 pub mod Fields
-pub mod InterfaceLists
 pub mod Listings
-pub mod Names

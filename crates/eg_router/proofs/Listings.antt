@@ -1,32 +1,31 @@
 -- The configuration: its commands make the same interfaces again, and what is shown is those commands as they are typed.
 use Rattle.std.proofs.Common.{◌≡◌, ◌≤◌, ◌<◌, ℕ, Bool, true, false, ◌||◌, List, [], ◌∷◌, ◌++◌, length, insert, map, refl, ap, arith, sym, ◌∙◌, append_assoc, length-append, subst}
-use Rattle.std.specs.Prelude.{Option, None, Some, nat_lt}
+use Rattle.std.specs.Prelude.{nat_lt}
 use Rattle.std.specs.List.{list_all}
 use Rattle.std.specs.Ordering.{is_lt}
 use Rattle.std.proofs.lemmas.Bool.{and_from, and_parts}
 use Rattle.std.proofs.lemmas.Bool.Decides.{nat_tests}
 use Rattle.std.proofs.lemmas.List.{append-nil, map-append}
 use Rattle.std.proofs.Math.Seq.{set-append_seam}
-use Rattle.cm_lists.proofs.Ascents.{all_above, is_sorted}
+use Rattle.cm_lists.proofs.Ascents.{all_above, is_sorted, sorted_ascends}
 use Rattle.cm_lists.proofs.Elements.{slice_get_at}
 use Rattle.cm_lists.proofs.Orders.{lt_is_not_eq}
 use Rattle.cm_lists.proofs.Pieces.{cons_is_not_empty}
+use Rattle.cm_lists.proofs.Quantifiers.{all_at_split}
 use Rattle.cm_files.specs.Catalogue.{by_bytes}
 use Rattle.cm_files.specs.OneDirectory.{no_files}
-use Rattle.eg_router.specs.Configuration.{address_commands, address_lines, commands_of, configuration, configuration_of, description_commands, description_lines, listing, shutdown_commands, shutdown_lines, typed}
+use Rattle.eg_router.specs.Configuration.{address_lines, commands_of, configuration, configuration_of, description_lines, listing, shutdown_commands, shutdown_lines, text_commands, typed}
 use Rattle.eg_router.specs.Interfaces.{AreInterfaces, by_name, changed, fresh, has, is_interface_name, place}
 use Rattle.eg_router.specs.Router.{configuring, obeyed, obeyed_all}
 use Rattle.eg_router.specs.declared.command.Command.{Command}
 use Rattle.eg_router.specs.declared.command.Command.TheVariants as commands
-use Rattle.eg_router.specs.declared.interface.Address.{Address}
 use Rattle.eg_router.specs.declared.interface.Change.{Change}
 use Rattle.eg_router.specs.declared.interface.Change.TheVariants as changes
 use Rattle.eg_router.specs.declared.interface.Interface.{Interface}
 use Rattle.eg_router.specs.declared.interfaces.TheConstants.{INTERFACE_LIMIT}
 use Rattle.eg_router.specs.declared.router.Mode.TheVariants as modes
 use Rattle.eg_router.specs.declared.router.Router.{Router}
-use Rattle.cm_lists.proofs.Ascents.{sorted_ascends}
-use Rattle.eg_router.proofs.Names.{by_name_total}
+use Rattle.eg_router.specs.InterfaceLaws.{by_name_total}
 
 -- commands in turn
 both : (first more : List Command) (at : Router) → obeyed_all (first ++ more) at ≡ obeyed_all more (obeyed_all first at)
@@ -81,15 +80,10 @@ changes_it : (front : List Interface) (it : Interface) (change : Change)
 changes_it front it change = rw (slice_get_at it [] front, set-append_seam front it [] (changed change it)) refl
 
 -- what is as in a new interface needs no command
-address_set : (front : List Interface) (it : Interface) (address : Option Address) → it.address ≡ None
-    → obeyed_all (address_commands address) (inside front it) ≡ inside front (record it { address = address })
-address_set front it None is = ap (λ (address : Option Address). inside front (record it { address = address })) is
-address_set front it (Some address) is = changes_it front it (changes.Address (Some address))
-
-description_set : (front : List Interface) (it : Interface) (text : List ℕ) → it.description ≡ []
-    → obeyed_all (description_commands text) (inside front it) ≡ inside front (record it { description = text })
-description_set front it [] is = ap (λ (text : List ℕ). inside front (record it { description = text })) is
-description_set front it (byte ∷ more) is = rw (cons_is_not_empty byte more) (changes_it front it (changes.Description (byte ∷ more)))
+text_set : (front : List Interface) (it : Interface) (change : List ℕ → Change) (text : List ℕ) → changed (change []) it ≡ it
+    → obeyed_all (text_commands change text) (inside front it) ≡ inside front (changed (change text) it)
+text_set front it change [] is = ap (inside front) (sym is)
+text_set front it change (byte ∷ more) is = rw (cons_is_not_empty byte more) (changes_it front it (change (byte ∷ more)))
 
 shutdown_set : (front : List Interface) (it : Interface) (is_down : Bool) → it.is_down ≡ false
     → obeyed_all (shutdown_commands is_down) (inside front it) ≡ inside front (record it { is_down = is_down })
@@ -101,18 +95,18 @@ made : (front : List Interface) (it : Interface) → all_below it.name front ≡
     → length front < INTERFACE_LIMIT → obeyed_all (commands_of it) (configuring front) ≡ configuring (front ++ it ∷ [])
 made front it below is room =
     ap (obeyed_all settings) (enters it.name front below is room)
-    ∙ both (address_commands it.address) _ _
-    ∙ ap (obeyed_all (description_commands it.description ++ (shutdown_commands it.is_down ++ commands.Exit ∷ [])))
-    (address_set front (fresh it.name) it.address refl)
-    ∙ both (description_commands it.description) _ _
+    ∙ both (text_commands changes.Address it.address) _ _
+    ∙ ap (obeyed_all (text_commands changes.Description it.description ++ (shutdown_commands it.is_down ++ commands.Exit ∷ [])))
+    (text_set front (fresh it.name) changes.Address it.address refl)
+    ∙ both (text_commands changes.Description it.description) _ _
     ∙ ap (obeyed_all (shutdown_commands it.is_down ++ commands.Exit ∷ []))
-    (description_set front (record (fresh it.name) { address = it.address }) it.description refl)
+    (text_set front (record (fresh it.name) { address = it.address }) changes.Description it.description refl)
     ∙ both (shutdown_commands it.is_down) _ _
     ∙ ap (obeyed_all (commands.Exit ∷ []))
     (shutdown_set front (record (fresh it.name) { address = it.address; description = it.description }) it.is_down refl)
   where
     settings : List Command
-    settings = address_commands it.address ++ (description_commands it.description ++ (shutdown_commands it.is_down ++ commands.Exit ∷ []))
+    settings = text_commands changes.Address it.address ++ (text_commands changes.Description it.description ++ (shutdown_commands it.is_down ++ commands.Exit ∷ []))
 
 -- those before an element of a sorted list are below it
 front_below : (front : List Interface) (it : Interface) (rest : List Interface) → is_sorted by_name (front ++ it ∷ rest) ≡ true
@@ -126,11 +120,6 @@ front_below (first ∷ front) it rest sorted =
     above_here [] above = (and_parts _ _ above).0
     above_here (other ∷ front) above = above_here front (and_parts _ _ above).1
 
-named_here : (front : List Interface) (it : Interface) (rest : List Interface)
-    → list_all (λ (other : Interface). is_interface_name other.name) (front ++ it ∷ rest) ≡ true → is_interface_name it.name ≡ true
-named_here [] it rest all = (and_parts _ _ all).0
-named_here (other ∷ front) it rest all = named_here front it rest (and_parts _ _ all).1
-
 all_made : (front more : List Interface) → length (front ++ more) ≤ INTERFACE_LIMIT
     → list_all (λ (it : Interface). is_interface_name it.name) (front ++ more) ≡ true → is_sorted by_name (front ++ more) ≡ true
     → obeyed_all (listing more) (configuring front) ≡ configuring (front ++ more)
@@ -140,7 +129,7 @@ all_made front (it ∷ more) few named sorted =
     let room : length front < INTERFACE_LIMIT = omega arith in
     let whole : (front ++ it ∷ []) ++ more ≡ front ++ it ∷ more = append_assoc front (it ∷ []) more in
     both (commands_of it) (listing more) (configuring front)
-    ∙ ap (obeyed_all (listing more)) (made front it (front_below front it more sorted) (named_here front it more named) room)
+    ∙ ap (obeyed_all (listing more)) (made front it (front_below front it more sorted) (all_at_split (λ (other : Interface). is_interface_name other.name) _ front it more refl named) room)
     ∙ all_made (front ++ it ∷ []) more (subst (λ (xs : List Interface). length xs ≤ INTERFACE_LIMIT) (sym whole) few)
     (ap (list_all (λ (other : Interface). is_interface_name other.name)) whole ∙ named) (ap (is_sorted by_name) whole ∙ sorted)
     ∙ ap configuring whole
@@ -151,12 +140,12 @@ makes_the_same interfaces are =
     all_made [] interfaces are.few are.names (sorted_ascends by_name by_name_total interfaces are.ascend)
 
 -- the lines of several commands, as they are typed
-address_typed : (address : Option Address) → address_lines address ≡ map typed (address_commands address)
+address_typed : (text : List ℕ) → address_lines text ≡ map typed (text_commands changes.Address text)
 unfolding address_lines
-address_typed None = refl
-address_typed (Some address) = refl
+address_typed [] = refl
+address_typed (byte ∷ more) = rw (cons_is_not_empty byte more) refl
 
-description_typed : (text : List ℕ) → description_lines text ≡ map typed (description_commands text)
+description_typed : (text : List ℕ) → description_lines text ≡ map typed (text_commands changes.Description text)
 unfolding description_lines
 description_typed [] = refl
 description_typed (byte ∷ more) = rw (cons_is_not_empty byte more) refl
@@ -171,11 +160,11 @@ unfolding configuration_of
 typed_of it =
     let leave : List Command = commands.Exit ∷ [] in
     let shut : List Command = shutdown_commands it.is_down ++ leave in
-    let described : List Command = description_commands it.description ++ shut in
-    let first : map typed (address_commands it.address ++ described) ≡ address_lines it.address ++ map typed described =
-    map-append typed (address_commands it.address) described ∙ ap (λ (lines : List (List ℕ)). lines ++ map typed described) (sym (address_typed it.address)) in
+    let described : List Command = text_commands changes.Description it.description ++ shut in
+    let first : map typed (text_commands changes.Address it.address ++ described) ≡ address_lines it.address ++ map typed described =
+    map-append typed (text_commands changes.Address it.address) described ∙ ap (λ (lines : List (List ℕ)). lines ++ map typed described) (sym (address_typed it.address)) in
     let second : map typed described ≡ description_lines it.description ++ map typed shut =
-    map-append typed (description_commands it.description) shut ∙ ap (λ (lines : List (List ℕ)). lines ++ map typed shut) (sym (description_typed it.description)) in
+    map-append typed (text_commands changes.Description it.description) shut ∙ ap (λ (lines : List (List ℕ)). lines ++ map typed shut) (sym (description_typed it.description)) in
     let third : map typed shut ≡ shutdown_lines it.is_down ++ map typed leave =
     map-append typed (shutdown_commands it.is_down) leave ∙ ap (λ (lines : List (List ℕ)). lines ++ map typed leave) (sym (shutdown_typed it.is_down)) in
     rw (first, second, third) refl

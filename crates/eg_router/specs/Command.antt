@@ -1,5 +1,5 @@
 -- What a confirmed line commands.
-use Rattle.std.specs.Prelude.{ℕ, ◌==◌, ◌||◌, true, false, List, [], take, map, if◌then◌else◌, Option, None, Some}
+use Rattle.std.specs.Prelude.{ℕ, ◌==◌, ◌||◌, true, false, List, [], take, map, if◌then◌else◌, Option, Some}
 use Rattle.std.specs.Char.{to_ascii_uppercase}
 use Rattle.std.specs.Option.{option_map_or}
 use Rattle.cm_text.specs.declared.name.TheConstants.{NAME_LIMIT}
@@ -17,7 +17,6 @@ use Rattle.eg_router.specs.declared.command.Command.{Command}
 use Rattle.eg_router.specs.declared.command.Command.TheVariants as commands
 use Rattle.eg_router.specs.declared.command.Shown.TheVariants as shown
 use Rattle.eg_router.specs.declared.grammar.TheConstants.{ADDRESS, CONFIGURE, DESCRIPTION, ENABLE, END, EXIT, INTERFACE, NO, ROUTER, RUNNING, SHOW, SHUTDOWN, VERSION}
-use Rattle.eg_router.specs.declared.interface.Address.{Address}
 use Rattle.eg_router.specs.declared.interface.Change.TheVariants as changes
 use Rattle.eg_router.specs.declared.router.Mode.TheVariants as modes
 
@@ -25,20 +24,6 @@ use Rattle.eg_router.specs.declared.router.Mode.TheVariants as modes
 abbrev pub code_by : Option Value → ℕ
 code_by (Some (values.Key entry code)) = code
 code_by value = 0
-
--- a number of an address, as the hook judged it
-abbrev pub number_by : Option Value → ℕ
-number_by (Some (values.Hook id number)) = number
-number_by value = 0
-
--- the four numbers of an address
-abbrev pub address_of : List FieldView → Address
-address_of fields = record {
-  first = number_by (value_of (roles.Own 1) fields);
-  second = number_by (value_of (roles.Own 2) fields);
-  third = number_by (value_of (roles.Own 3) fields);
-  fourth = number_by (value_of (roles.Own 4) fields);
-}
 
 -- what the first field of a role said, and nothing where there is none
 abbrev pub said_by : Role → SessionState → List ℕ
@@ -52,9 +37,9 @@ upper text = map to_ascii_uppercase (take NAME_LIMIT text)
 abbrev pub name_of : SessionState → List ℕ
 name_of held = upper (said_by roles.Files held)
 
--- what DESCRIPTION says
-abbrev pub description_of : SessionState → List ℕ
-description_of held = take NAME_LIMIT (unquoted (said_by roles.Value held))
+-- what DESCRIPTION or ADDRESS says, at most 39 bytes
+abbrev pub setting_of : SessionState → List ℕ
+setting_of held = take NAME_LIMIT (unquoted (said_by roles.Value held))
 
 -- what SHOW shows, by its keyword
 abbrev pub shown_by : ℕ → Command
@@ -67,7 +52,7 @@ shown_by what =
 abbrev pub taken_back : ℕ → SessionState → Command
 taken_back what held =
     if what == INTERFACE then commands.NoInterface (name_of held)
-    else (if what == ADDRESS then commands.Set (changes.Address None)
+    else (if what == ADDRESS then commands.Set (changes.Address [])
     else (if what == DESCRIPTION then commands.Set (changes.Description [])
     else (if what == SHUTDOWN then commands.Set (changes.Shutdown false) else commands.Nothing)))
 
@@ -81,11 +66,11 @@ named verb held =
     else (if verb == INTERFACE then commands.Interface (name_of held)
     else (if verb == SHOW then shown_by (code_by (value_of roles.What held.fields))
     else (if verb == NO then taken_back (code_by (value_of roles.What held.fields)) held
-    else (if verb == ADDRESS then commands.Set (changes.Address (Some (address_of held.fields)))
-    else (if verb == DESCRIPTION then commands.Set (changes.Description (description_of held))
+    else (if verb == ADDRESS then commands.Set (changes.Address (setting_of held))
+    else (if verb == DESCRIPTION then commands.Set (changes.Description (setting_of held))
     else (if verb == SHUTDOWN then commands.Set (changes.Shutdown true) else commands.Nothing)))))))))
 
 -- the field of role Verb names the command, that of role What what it shows or takes back, that of role Files an
--- interface, that of role Value a description, and those of the program's own roles an address
+-- interface, that of role Value a description or an address
 abbrev pub command_of : SessionState → Command
 command_of held = named (code_by (value_of roles.Verb held.fields)) held

@@ -1,24 +1,15 @@
 -- What the router shows, and the commands that its configuration is made of.
-use Rattle.std.specs.Prelude.{ℕ, ◌==◌, Bool, true, if◌then◌else◌, List, [], ◌∷◌, ◌++◌, length, codes, map, Option, None, Some}
-use Rattle.std.specs.Fmt.{decimal}
+use Rattle.std.specs.Prelude.{ℕ, ◌==◌, Bool, true, if◌then◌else◌, List, [], ◌∷◌, ◌++◌, length, codes, map}
 use Rattle.std.specs.List.{flat_map}
 use Rattle.eg_router.specs.declared.command.Command.{Command}
 use Rattle.eg_router.specs.declared.command.Command.TheVariants as commands
 use Rattle.eg_router.specs.declared.command.Shown.TheVariants as shown
-use Rattle.eg_router.specs.declared.interface.Address.{Address}
+use Rattle.eg_router.specs.declared.interface.Change.{Change}
 use Rattle.eg_router.specs.declared.interface.Change.TheVariants as changes
 use Rattle.eg_router.specs.declared.interface.Interface.{Interface}
 
-unfoldable pub point : List ℕ
-point = codes "."
-
 unfoldable pub blank : List ℕ
 blank = codes " "
-
--- an address as it is typed: four numbers with points between
-unfoldable pub dotted : Address → List ℕ
-dotted it =
-    decimal it.first ++ point ++ decimal it.second ++ point ++ decimal it.third ++ point ++ decimal it.fourth
 
 -- a byte of a quoted text: a quote stands twice
 unfoldable pub quoted_byte : ℕ → List ℕ
@@ -44,9 +35,8 @@ unfoldable pub exit_word : List ℕ
 exit_word = codes "exit"
 
 -- the lines of each setting; what is as in a new interface has none
-unfoldable pub address_lines : Option Address → List (List ℕ)
-address_lines None = []
-address_lines (Some address) = (address_word ++ dotted address) ∷ []
+unfoldable pub address_lines : List ℕ → List (List ℕ)
+address_lines text = if length text == 0 then [] else (address_word ++ text) ∷ []
 
 unfoldable pub description_lines : List ℕ → List (List ℕ)
 description_lines text =
@@ -66,12 +56,8 @@ unfoldable pub configuration : List Interface → List (List ℕ)
 configuration interfaces = flat_map configuration_of interfaces
 
 -- the commands that make each setting
-abbrev pub address_commands : Option Address → List Command
-address_commands None = []
-address_commands (Some address) = commands.Set (changes.Address (Some address)) ∷ []
-
-abbrev pub description_commands : List ℕ → List Command
-description_commands text = if length text == 0 then [] else commands.Set (changes.Description text) ∷ []
+abbrev pub text_commands : (List ℕ → Change) → List ℕ → List Command
+text_commands change text = if length text == 0 then [] else commands.Set (change text) ∷ []
 
 abbrev pub shutdown_commands : Bool → List Command
 shutdown_commands is_down = if is_down then commands.Set (changes.Shutdown true) ∷ [] else []
@@ -80,7 +66,7 @@ shutdown_commands is_down = if is_down then commands.Set (changes.Shutdown true)
 abbrev pub commands_of : Interface → List Command
 commands_of it =
     commands.Interface it.name
-    ∷ (address_commands it.address ++ (description_commands it.description
+    ∷ (text_commands changes.Address it.address ++ (text_commands changes.Description it.description
     ++ (shutdown_commands it.is_down ++ commands.Exit ∷ [])))
 
 -- the commands that make them all, in their order
@@ -90,7 +76,7 @@ listing interfaces = flat_map commands_of interfaces
 -- what is typed for a command of a listing
 abbrev pub typed : Command → List ℕ
 typed (commands.Interface name) = interface_word ++ name
-typed (commands.Set (changes.Address (Some address))) = address_word ++ dotted address
+typed (commands.Set (changes.Address text)) = address_word ++ text
 typed (commands.Set (changes.Description text)) = description_word ++ flat_map quoted_byte text ++ quote
 typed (commands.Set (changes.Shutdown true)) = shutdown_word
 typed commands.Exit = exit_word
@@ -103,13 +89,10 @@ up_word = codes " up"
 unfoldable pub down_word : List ℕ
 down_word = codes " down"
 
-unfoldable pub address_text : Option Address → List ℕ
-address_text None = []
-address_text (Some address) = blank ++ dotted address
-
 unfoldable pub interface_line : Interface → List ℕ
 interface_line it =
-    it.name ++ (if it.is_down then down_word else up_word) ++ address_text it.address
+    it.name ++ (if it.is_down then down_word else up_word)
+    ++ (if length it.address == 0 then [] else blank) ++ it.address
     ++ (if length it.description == 0 then [] else blank) ++ it.description
 
 unfoldable pub version : List ℕ

@@ -1,6 +1,6 @@
 -- The grammar of the router: nodes, each a chain of blocks, and the keyword tables that they name.
-use Rattle.std.specs.Prelude.{ℕ, List, [], ◌∷◌, ◌++◌, codes, map}
-use Rattle.cm_blocks.specs.declared.function.Function.TheVariants.{Hook, Key, Quoted, Token, Word}
+use Rattle.std.specs.Prelude.{ℕ, List, [], ◌∷◌, ◌++◌, codes, map, Some}
+use Rattle.cm_blocks.specs.declared.function.Function.TheVariants.{Hook, Key, Quoted, Word}
 use Rattle.cm_blocks.specs.declared.function.Role.{Role}
 use Rattle.cm_blocks.specs.declared.function.Role.TheVariants as roles
 use Rattle.cm_blocks.specs.declared.node.Block.{Block}
@@ -9,18 +9,11 @@ use Rattle.cm_blocks.specs.Grammar.{Graph}
 use Rattle.cm_blocks.specs.Words.{block, confirm, node, only}
 use Rattle.eg_router.specs.Tables.{router_tables}
 use Rattle.eg_router.specs.declared.grammar.TheConstants.{LINE_END}
-use Rattle.eg_router.specs.declared.rules.TheConstants.{NAME, NEW_NAME, OCTET}
+use Rattle.eg_router.specs.declared.rules.TheConstants.{IPV4, NAME, NEW_NAME}
 
 -- a keyword of this table
 abbrev pub keyword : ℕ → Role → Block
 keyword table role = block (Key table) role LINE_END
-
--- a number of an address, by its place from 1, and a point between two of them
-abbrev pub octet : ℕ → ℕ → Block
-octet place next = block (Hook OCTET) (roles.Own place) next
-
-abbrev pub point : ℕ → Block
-point next = block (Token (codes ".")) roles.None next
 
 -- a line of a mode begins with nothing, or with a keyword of its table
 abbrev pub lines : ℕ → Node
@@ -30,8 +23,8 @@ lines table = node (confirm LINE_END ∷ keyword table roles.Verb ∷ [])
 unfoldable pub first_nodes : List Node
 first_nodes = lines 0 ∷ lines 1 ∷ lines 2 ∷ lines 3 ∷ lines 4 ∷ []
 
--- nodes 5 to 20, of one block each: the end of a line; CONFIGURE; SHOW; NO and what it takes back; INTERFACE; ROUTER;
--- the address; the description
+-- nodes 5 to 13, of one block each: the end of a line; CONFIGURE; SHOW; NO and what it takes back; INTERFACE; ROUTER;
+-- the description
 unfoldable pub blocks : List Block
 blocks =
     confirm LINE_END
@@ -42,12 +35,15 @@ blocks =
     ∷ keyword 8 roles.What
     ∷ block (Hook NEW_NAME) roles.Files LINE_END
     ∷ block Word roles.Value LINE_END
-    ∷ octet 1 14 ∷ point 15 ∷ octet 2 16 ∷ point 17 ∷ octet 3 18 ∷ point 19 ∷ octet 4 LINE_END
     ∷ block Quoted roles.Value LINE_END
     ∷ []
 
+-- node 14: an address, which a line that ends before it is missing
+abbrev pub address_node : Node
+address_node = record (only (block (Hook IPV4) roles.Value LINE_END)) { awaits = Some (codes "address") }
+
 unfoldable pub router_nodes : List Node
-router_nodes = first_nodes ++ map only blocks
+router_nodes = first_nodes ++ map only blocks ++ address_node ∷ []
 
 unfoldable pub router_graph : Graph
 router_graph = record { nodes = router_nodes; tables = router_tables }

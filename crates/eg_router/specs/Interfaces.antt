@@ -1,5 +1,5 @@
 -- The interfaces of the router, in the order of their names.
-use Rattle.std.specs.Prelude.{◌≡◌, ℕ, ◌≤◌, ◌&&◌, ◌||◌, Bool, true, false, not, nat_lt, nat_le, if◌then◌else◌, List, [], filter, length, map, None, slice_get, slice_set}
+use Rattle.std.specs.Prelude.{◌≡◌, ℕ, ◌≤◌, ◌&&◌, ◌||◌, ◌==◌, Bool, true, false, not, nat_lt, nat_le, if◌then◌else◌, List, [], ◌∷◌, filter, length, map, slice_get, slice_set}
 use Rattle.std.specs.Char.{is_ascii_lowercase}
 use Rattle.std.specs.List.{insert, list_all, list_any, prefix_len}
 use Rattle.std.specs.Option.{option_map_or}
@@ -16,7 +16,7 @@ use Rattle.eg_router.specs.declared.interfaces.TheConstants.{INTERFACE_LIMIT}
 
 -- the interface of this name, which is up, with no settings
 abbrev pub fresh : List ℕ → Interface
-fresh name = record { name = name; address = None; description = []; is_down = false }
+fresh name = record { name = name; address = []; description = []; is_down = false }
 
 -- an interface after a change
 abbrev pub changed : Change → Interface → Interface
@@ -24,12 +24,25 @@ changed (Address address) it = record it { address = address }
 changed (Description text) it = record it { description = text }
 changed (Shutdown is_down) it = record it { is_down = is_down }
 
--- 1 to 39 capital letters, digits and hyphens
-abbrev pub is_name_byte : ℕ → Bool
-is_name_byte byte = is_word byte && not (is_ascii_lowercase byte)
+-- a letter, a digit, a hyphen or a point
+abbrev pub is_typed_byte : ℕ → Bool
+is_typed_byte byte = is_word byte || byte == 46
+
+-- a text that is not empty, and whose first byte is no point
+abbrev pub begins_name : List ℕ → Bool
+begins_name [] = false
+begins_name (byte ∷ more) = not (byte == 46)
+
+-- 1 to 39 letters, digits, hyphens and points, of which the first is no point
+abbrev pub is_typed_name : List ℕ → Bool
+is_typed_name text = begins_name text && nat_le (length text) NAME_LIMIT && list_all is_typed_byte text
+
+-- such a text in upper case
+abbrev pub is_capital : ℕ → Bool
+is_capital byte = not (is_ascii_lowercase byte)
 
 abbrev pub is_interface_name : List ℕ → Bool
-is_interface_name name = nat_lt 0 (length name) && nat_le (length name) NAME_LIMIT && list_all is_name_byte name
+is_interface_name name = is_typed_name name && list_all is_capital name
 
 abbrev pub names_of : List Interface → List (List ℕ)
 names_of interfaces = map (λ (it : Interface). it.name) interfaces
@@ -74,7 +87,3 @@ with_change at change interfaces =
 -- the name of the one at this place, and none where there is none
 abbrev pub name_at : ℕ → List Interface → List ℕ
 name_at at interfaces = option_map_or (λ (it : Interface). it.name) (slice_get interfaces at) []
-
--- each has a name
-abbrev pub are_named : List Interface → Bool
-are_named interfaces = list_all (λ (it : Interface). is_interface_name it.name) interfaces

@@ -1,6 +1,7 @@
 pub mod Command
 pub mod Configuration
 pub mod Graph
+pub mod InterfaceLaws
 pub mod Interfaces
 pub mod Program
 pub mod PromptLaws

@@ -17,17 +17,17 @@ use Rattle.eg_router.specs.declared.router.Mode.TheVariants as modes
 use Rattle.eg_router.specs.declared.router.Router.{Router}
 
 -- a name and a mark after it
-abbrev pub prompt : List ℕ → ℕ → Prompt
-prompt name mark = Named (label_of name) mark
+abbrev pub prompt : List ℕ → List ℕ → Prompt
+prompt name mark = Named (label_of name) (label_of mark)
 
 -- in each mode the node where a line begins, and its prompt: the name of the interface whose mode it is, or what the
 -- mode is called; and a mark, `>` in the first mode, and then `#`
 abbrev pub line_in : Mode → List Interface → Option (ℕ × Prompt)
-line_in modes.User interfaces = Some (USER_LINES, prompt (codes "router") 62)
-line_in modes.Privileged interfaces = Some (PRIVILEGED_LINES, prompt (codes "router") 35)
-line_in modes.Configuration interfaces = Some (CONFIGURATION_LINES, prompt (codes "router(config)") 35)
-line_in (modes.Interface at) interfaces = Some (INTERFACE_LINES, prompt (name_at at interfaces) 35)
-line_in modes.Protocol interfaces = Some (PROTOCOL_LINES, prompt (codes "router(config-router)") 35)
+line_in modes.User interfaces = Some (USER_LINES, prompt (codes "router") (codes ">"))
+line_in modes.Privileged interfaces = Some (PRIVILEGED_LINES, prompt (codes "router") (codes "#"))
+line_in modes.Configuration interfaces = Some (CONFIGURATION_LINES, prompt (codes "router(config)") (codes "#"))
+line_in (modes.Interface at) interfaces = Some (INTERFACE_LINES, prompt (name_at at interfaces) (codes "#"))
+line_in modes.Protocol interfaces = Some (PROTOCOL_LINES, prompt (codes "router(config-router)") (codes "#"))
 line_in modes.Ended interfaces = None
 
 -- its interfaces are the rules; a line that is confirmed does what it commands, and shows its reply

@@ -3,14 +3,14 @@ ghost use Rattle.std.specs.Prelude.{◌≡◌, ◌≤◌, length, map};
 ghost use Rattle.std.specs.Char.{to_ascii_uppercase};
 ghost use Rattle.std.specs.Str.{IsAscii};
 ghost use Rattle.cm_text.specs.declared.name.TheConstants.{NAME_LIMIT};
-ghost use Rattle.eg_router.specs.Command.{address_of, code_by, command_of, description_of, name_of, number_by, said_by, shown_by, taken_back};
+ghost use Rattle.eg_router.specs.Command.{code_by, command_of, name_of, said_by, setting_of, shown_by, taken_back};
 ghost use Rattle.eg_router.specs.Graph.{router_graph};
 
 use crate::grammar::{
     ADDRESS, CONFIGURE, DESCRIPTION, ENABLE, END, EXIT, INTERFACE, NO, ROUTER, RUNNING, SHOW,
     SHUTDOWN, VERSION,
 };
-use crate::{Address, Change, Mode};
+use crate::{Change, Mode};
 use cm_blocks::{Grammar, Role};
 use cm_fields::{Value, unquoted};
 use cm_state::Session;
@@ -47,8 +47,8 @@ pub enum Command {
 }
 
 /// What the line that a session holds commands, where it is confirmed: the field of role Verb names the command, that
-/// of role What what it shows or takes back, that of role Files an interface, that of role Value a description, and
-/// those of the program's own roles an address.
+/// of role What what it shows or takes back, that of role Files an interface, that of role Value a description or an
+/// address.
 pub fn command_of(session: &Session, grammar: &Grammar) -> Command
     requires { grammar.now ≡ router_graph }
     ensures { result ≡ command_of session.now }
@@ -63,8 +63,8 @@ pub fn command_of(session: &Session, grammar: &Grammar) -> Command
         INTERFACE => Command::Interface(name_of(session, grammar)),
         SHOW => shown_by(what),
         NO => taken_back(what, session, grammar),
-        ADDRESS => Command::Set(Change::Address(Some(address_of(session)))),
-        DESCRIPTION => Command::Set(Change::Description(description_of(session, grammar))),
+        ADDRESS => Command::Set(Change::Address(setting_of(session, grammar))),
+        DESCRIPTION => Command::Set(Change::Description(setting_of(session, grammar))),
         SHUTDOWN => Command::Set(Change::Shutdown(true)),
         _ => Command::Nothing,
     }
@@ -89,7 +89,7 @@ fn taken_back(what: u16, session: &Session, grammar: &Grammar) -> Command
 {
     match what {
         INTERFACE => Command::NoInterface(name_of(session, grammar)),
-        ADDRESS => Command::Set(Change::Address(None)),
+        ADDRESS => Command::Set(Change::Address(Name::new(""))),
         DESCRIPTION => Command::Set(Change::Description(Name::new(""))),
         SHUTDOWN => Command::Set(Change::Shutdown(false)),
         _ => Command::Nothing,
@@ -103,28 +103,6 @@ fn code_by(value: Option<Value>) -> u16
     match value {
         Some(Value::Key { code, .. }) => code,
         _ => 0,
-    }
-}
-
-// A number of an address, as the hook judged it.
-fn number_by(value: Option<Value>) -> u64
-    ensures { result ≡ number_by value }
-{
-    match value {
-        Some(Value::Hook { value, .. }) => value,
-        _ => 0,
-    }
-}
-
-// The four numbers of an address.
-fn address_of(session: &Session) -> Address
-    ensures { result ≡ address_of session.now.fields }
-{
-    Address {
-        first: number_by(session.value_of(Role::Own(1))),
-        second: number_by(session.value_of(Role::Own(2))),
-        third: number_by(session.value_of(Role::Own(3))),
-        fourth: number_by(session.value_of(Role::Own(4))),
     }
 }
 
@@ -149,10 +127,10 @@ fn name_of(session: &Session, grammar: &Grammar) -> Name
     upper(&said[..NAME_LIMIT.min(said.len())])
 }
 
-// What DESCRIPTION says.
-fn description_of(session: &Session, grammar: &Grammar) -> Name
+// What DESCRIPTION or ADDRESS says; an address has no quotes.
+fn setting_of(session: &Session, grammar: &Grammar) -> Name
     requires { grammar.now ≡ router_graph }
-    ensures { result ≡ description_of session.now }
+    ensures { result ≡ setting_of session.now }
 {
     unquoted(said_by(Role::Value, session, grammar))
 }

@@ -4,9 +4,9 @@ ghost use Rattle.std.specs.List.{flat_map};
 ghost use Rattle.cm_text.specs.ScreenBytes.{end_of_line};
 ghost use Rattle.cm_io.specs.Pieces.{shown_lines};
 ghost use Rattle.cm_io.specs.Writer.{Writes};
-ghost use Rattle.eg_router.specs.Configuration.{address_lines, address_text, address_word, blank, configuration, configuration_of, description_lines, description_word, dotted, exit_word, interface_line, interface_word, quoted_byte, reply, shutdown_lines};
+ghost use Rattle.eg_router.specs.Configuration.{address_lines, address_word, blank, configuration, configuration_of, description_lines, description_word, exit_word, interface_line, interface_word, quoted_byte, reply, shutdown_lines};
 
-use crate::{Address, Command, Interface, Interfaces, Shown};
+use crate::{Command, Interface, Interfaces, Shown};
 use cm_io::{Sink, Writer};
 use cm_text::{Name, end_of_line};
 
@@ -38,7 +38,7 @@ fn put_interface<S: Sink>(it: &Interface, out: &mut Writer<'_, S>)
     ensures { Writes S.Sink out.old out.new (shown_lines (configuration_of it.now)) }
 {
     put_head(&it.name, out);
-    put_address(it.address, out);
+    put_address(&it.address, out);
     put_description(&it.description, out);
     put_shutdown(it.is_down, out);
     put_exit(out);
@@ -54,12 +54,13 @@ fn put_head<S: Sink>(name: &Name, out: &mut Writer<'_, S>)
 }
 
 #[tactic(auto, using(cm_io::proofs::Texts::texts, cm_io::proofs::Texts::lines), unfolding(crate::specs::Configuration::address_lines))]
-fn put_address<S: Sink>(address: Option<Address>, out: &mut Writer<'_, S>)
-    ensures { Writes S.Sink out.old out.new (shown_lines (address_lines address)) }
+fn put_address<S: Sink>(text: &Name, out: &mut Writer<'_, S>)
+    ensures { Writes S.Sink out.old out.new (shown_lines (address_lines text.now)) }
 {
-    if let Some(address) = address {
+    let text = text.as_bytes();
+    if !text.is_empty() {
         out.put(address_word());
-        put_dotted(address, out);
+        out.put(text);
         out.put(end_of_line());
     }
 }
@@ -114,20 +115,6 @@ fn put_quoted_byte<S: Sink>(byte: u8, out: &mut Writer<'_, S>)
     }
 }
 
-// Writes an address.
-#[tactic(auto, using(cm_io::proofs::Texts::texts), unfolding(crate::specs::Configuration::dotted, crate::specs::Configuration::point))]
-fn put_dotted<S: Sink>(address: Address, out: &mut Writer<'_, S>)
-    ensures { Writes S.Sink out.old out.new (dotted address) }
-{
-    out.put_decimal(address.first);
-    out.put(b".");
-    out.put_decimal(address.second);
-    out.put(b".");
-    out.put_decimal(address.third);
-    out.put(b".");
-    out.put_decimal(address.fourth);
-}
-
 // Writes a line for each interface.
 #[tactic(auto, using(cm_io::proofs::Texts::each_line))]
 fn put_interfaces<S: Sink>(interfaces: &[Interface], out: &mut Writer<'_, S>)
@@ -143,23 +130,15 @@ fn put_interfaces<S: Sink>(interfaces: &[Interface], out: &mut Writer<'_, S>)
 fn put_interface_line<S: Sink>(it: &Interface, out: &mut Writer<'_, S>)
     ensures { Writes S.Sink out.old out.new (interface_line it.now ++ end_of_line) }
 {
+    let address = it.address.as_bytes();
     let description = it.description.as_bytes();
     out.put(it.name.as_bytes());
     out.put(if it.is_down { b" down" } else { b" up" });
-    put_address_text(it.address, out);
+    out.put(if address.is_empty() { b"" } else { blank() });
+    out.put(address);
     out.put(if description.is_empty() { b"" } else { blank() });
     out.put(description);
     out.put(end_of_line());
-}
-
-#[tactic(auto, using(cm_io::proofs::Texts::texts, cm_io::proofs::Texts::each), unfolding(crate::specs::Configuration::address_text))]
-fn put_address_text<S: Sink>(address: Option<Address>, out: &mut Writer<'_, S>)
-    ensures { Writes S.Sink out.old out.new (address_text address) }
-{
-    if let Some(address) = address {
-        out.put(blank());
-        put_dotted(address, out);
-    }
 }
 
 // Texts before what is not fixed.

@@ -1,8 +1,8 @@
 // The grammar of the router.
 ghost use Rattle.std.specs.Prelude.{◌≡◌, IfOk};
-ghost use Rattle.eg_router.specs.Graph.{blocks, keyword, lines, octet, point, router_nodes};
+ghost use Rattle.eg_router.specs.Graph.{address_node, blocks, keyword, lines, router_nodes};
 
-use crate::rules::{NAME, NEW_NAME, OCTET};
+use crate::rules::{IPV4, NAME, NEW_NAME};
 use crate::tables::tables;
 use cm_blocks::{Block, Function, Grammar, Node, Role, push_nodes};
 use cm_io::NoMemory;
@@ -65,7 +65,7 @@ impl Known for RouterGrammar {
     }
 }
 
-// Nodes 0 to 4, where a line of each mode begins with nothing or a command, and those of one block.
+// Nodes 0 to 4, where a line of each mode begins with nothing or a command; those of one block; and the address.
 #[tactic(auto, unfolding(crate::specs::Graph::router_nodes, crate::specs::Graph::first_nodes))]
 fn nodes(alloc: Global) -> Result<Vec<Node>, NoMemory>
     ensures { IfOk result (λ nodes. nodes.items ≡ router_nodes) }
@@ -78,6 +78,7 @@ fn nodes(alloc: Global) -> Result<Vec<Node>, NoMemory>
         lines(4, alloc)?,
     ]?;
     push_nodes(&mut nodes, blocks(alloc)?, alloc)?;
+    nodes.push(address_node(alloc)?)?;
     Ok(nodes)
 }
 
@@ -88,8 +89,8 @@ fn lines(table: u16, alloc: Global) -> Result<Node, NoMemory>
     Ok(Node::new(vec![in alloc; Block::confirm(LINE_END), keyword(table, Role::Verb)]?))
 }
 
-// Nodes 5 to 20, of one block each: the end of a line; CONFIGURE; SHOW; NO and what it takes back; INTERFACE; ROUTER;
-// the address, four numbers with points between; the description.
+// Nodes 5 to 13, of one block each: the end of a line; CONFIGURE; SHOW; NO and what it takes back; INTERFACE; ROUTER;
+// the description.
 #[tactic(auto, unfolding(crate::specs::Graph::blocks))]
 fn blocks(alloc: Global) -> Result<Vec<Block>, NoMemory>
     ensures { IfOk result (λ items. items.items ≡ blocks) }
@@ -103,13 +104,6 @@ fn blocks(alloc: Global) -> Result<Vec<Block>, NoMemory>
         keyword(8, Role::What),
         Block::new(Function::Hook(NEW_NAME), Role::Files, LINE_END),
         Block::new(Function::Word, Role::Value, LINE_END),
-        octet(1, 14),
-        point(15),
-        octet(2, 16),
-        point(17),
-        octet(3, 18),
-        point(19),
-        octet(4, LINE_END),
         Block::new(Function::Quoted, Role::Value, LINE_END),
     ]?)
 }
@@ -121,16 +115,13 @@ fn keyword(table: u16, role: Role) -> Block
     Block::new(Function::Key(table), role, LINE_END)
 }
 
-// A number of an address, by its place from 1.
-fn octet(place: u8, next: u16) -> Block
-    ensures { result ≡ octet place next }
+// Node 14: an address. A line that ends before it is told that.
+fn address_node(alloc: Global) -> Result<Node, NoMemory>
+    ensures { IfOk result (λ node. node ≡ address_node) }
 {
-    Block::new(Function::Hook(OCTET), Role::Own(place), next)
-}
-
-// A point between two of them.
-fn point(next: u16) -> Block
-    ensures { result ≡ point next }
-{
-    Block::new(Function::Token(Name::new(".")), Role::None, next)
+    let address = Block::new(Function::Hook(IPV4), Role::Value, LINE_END);
+    Ok(Node {
+        awaits: Some(Name::new("address")),
+        ..Node::new(vec![in alloc; address]?)
+    })
 }

@@ -4,26 +4,13 @@ ghost use Rattle.eg_router.specs.Interfaces.{changed, fresh};
 
 use cm_text::Name;
 
-/// An address: four numbers from 0 to 255.
-#[derive(Clone, Copy, Debug, PartialEq, Eq)]
-pub struct Address {
-    /// The first number.
-    pub first: u64,
-    /// The second.
-    pub second: u64,
-    /// The third.
-    pub third: u64,
-    /// The last.
-    pub fourth: u64,
-}
-
 /// An interface of the router.
 #[derive(Debug, Drop)]
 pub struct Interface {
     /// Its name, in upper case.
     pub name: Name,
-    /// Its address, where it has one.
-    pub address: Option<Address>,
+    /// Its address as it was typed; nothing where it has none.
+    pub address: Name,
     /// What it is for; nothing where nothing is said.
     pub description: Name,
     /// Whether it is shut down.
@@ -34,7 +21,7 @@ pub struct Interface {
 #[derive(Debug, Drop)]
 pub enum Change {
     /// ADDRESS gives it one, and NO ADDRESS takes it.
-    Address(Option<Address>),
+    Address(Name),
     /// DESCRIPTION says what it is for, and NO DESCRIPTION that nothing is said.
     Description(Name),
     /// SHUTDOWN shuts it down, and NO SHUTDOWN takes it up.
@@ -48,7 +35,7 @@ impl Interface {
     {
         Interface {
             name,
-            address: None,
+            address: Name::new(""),
             description: Name::new(""),
             is_down: false,
         }

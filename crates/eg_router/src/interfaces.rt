@@ -2,7 +2,7 @@
 ghost use Rattle.std.specs.Prelude.{◌≡◌, ◌≤◌, [], true, length};
 ghost use Rattle.std.specs.List.{list_all};
 ghost use Rattle.cm_text.specs.declared.name.TheConstants.{NAME_LIMIT};
-ghost use Rattle.eg_router.specs.Interfaces.{AreInterfaces, has, is_interface_name, is_name_byte, may_enter, name_at, place, with_change, with_name, without_name};
+ghost use Rattle.eg_router.specs.Interfaces.{AreInterfaces, begins_name, has, is_capital, is_interface_name, is_typed_byte, is_typed_name, may_enter, name_at, place, with_change, with_name, without_name};
 
 use crate::{Change, Interface};
 use arrayvec::ArrayVec;
@@ -60,8 +60,8 @@ impl Interfaces {
         }
     }
 
-    /// Whether the interface of this name is there, or may be made: it is a name, of 1 to 39 capital letters, digits
-    /// and hyphens, and there are fewer than 16 others.
+    /// Whether the interface of this name is there, or may be made: it is a name, of 1 to 39 capital letters, digits,
+    /// hyphens and points, of which the first is no point, and there are fewer than 16 others.
     pub fn may_enter(&self, name: &Name) -> bool
         ensures { result ≡ may_enter name.now self.now }
     {
@@ -130,22 +130,44 @@ fn has(name: &Name, interfaces: &[Interface]) -> bool
         .any(|it| it.name.cmp(name) == Ordering::Equal)
 }
 
-// Whether a byte may be in the name of an interface.
-fn is_name_byte(byte: u8) -> bool
-    ensures { result ≡ is_name_byte byte }
+// Whether a name may begin so.
+fn begins_name(text: &[u8]) -> bool
+    ensures { result ≡ begins_name text.now }
 {
-    is_word(byte) && !byte.is_ascii_lowercase()
+    match text {
+        [] => false,
+        [byte, ..] => *byte != b'.',
+    }
 }
 
-// Whether all bytes are so.
-fn are_name_bytes(text: &[u8]) -> bool
-    ensures { result ≡ list_all is_name_byte text.now }
+// Whether a byte may be in the name of an interface as it is typed.
+fn is_typed_byte(byte: u8) -> bool
+    ensures { result ≡ is_typed_byte byte }
 {
-    text.iter().all(|byte| is_name_byte(*byte))
+    is_word(byte) || byte == b'.'
+}
+
+fn are_typed_bytes(text: &[u8]) -> bool
+    ensures { result ≡ list_all is_typed_byte text.now }
+{
+    text.iter().all(|byte| is_typed_byte(*byte))
+}
+
+// Whether one may have this name, once it is in upper case.
+pub(crate) fn is_typed_name(text: &[u8]) -> bool
+    ensures { result ≡ is_typed_name text.now }
+{
+    begins_name(text) && text.len() <= NAME_LIMIT && are_typed_bytes(text)
+}
+
+fn are_capital(text: &[u8]) -> bool
+    ensures { result ≡ list_all is_capital text.now }
+{
+    text.iter().all(|byte| !byte.is_ascii_lowercase())
 }
 
 fn is_interface_name(text: &[u8]) -> bool
     ensures { result ≡ is_interface_name text.now }
 {
-    !text.is_empty() && text.len() <= NAME_LIMIT && are_name_bytes(text)
+    is_typed_name(text) && are_capital(text)
 }

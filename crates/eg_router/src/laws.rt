@@ -1,10 +1,9 @@
 // Laws of the router.
-ghost use Rattle.std.specs.Prelude.{◌≡◌, ◌≤◌, ℕ, List, [], ◌++◌, Result, map, true};
-ghost use Rattle.std.specs.Fmt.{decimal};
+ghost use Rattle.std.specs.Prelude.{◌≡◌, ℕ, List, [], ◌++◌, Result, map, take, true};
 ghost use Rattle.std.specs.List.{flat_map};
+ghost use Rattle.cm_text.specs.declared.name.TheConstants.{NAME_LIMIT};
 ghost use Rattle.cm_fields.specs.Quoted.{unquoted};
 ghost use Rattle.cm_hooks.specs.Meanings.{IsYes};
-ghost use Rattle.cm_hooks.specs.declared.answer.Answer.TheVariants.{Yes};
 ghost use Rattle.cm_run.specs.Keeping.{KeepsLine};
 ghost use Rattle.cm_run.specs.LineRun.{LineRun};
 ghost use Rattle.cm_run.specs.LineSemantics.{lines_only};
@@ -12,13 +11,13 @@ ghost use Rattle.cm_run.specs.Observation.{Observation};
 ghost use Rattle.eg_router.specs.Command.{upper};
 ghost use Rattle.eg_router.specs.Configuration.{configuration, listing, quoted_byte, typed};
 ghost use Rattle.eg_router.specs.Interfaces.{AreInterfaces, is_interface_name, may_enter};
-ghost use Rattle.eg_router.specs.Rules.{new_name_verdict, octet_verdict};
+ghost use Rattle.eg_router.specs.Rules.{address_verdict, new_name_verdict};
 ghost use Rattle.eg_router.specs.Program.{router_semantics};
 ghost use Rattle.eg_router.specs.Router.{configuring, obeyed_all, router_start};
 ghost use Rattle.eg_router.specs.declared.grammar.TheConstants.{ADDRESS, CONFIGURATION_LINES, CONFIGURE, DESCRIPTION, ENABLE, END, EXIT, INTERFACE, INTERFACE_LINES, LINE_END, NO, PRIVILEGED_LINES, PROTOCOL_LINES, ROUTER, RUNNING, SHOW, SHUTDOWN, USER_LINES, VERSION};
 ghost use Rattle.eg_router.specs.declared.interface.Interface.{Interface};
 ghost use Rattle.eg_router.specs.declared.interfaces.TheConstants.{INTERFACE_LIMIT};
-ghost use Rattle.eg_router.specs.declared.rules.TheConstants.{NAME, NEW_NAME, OCTET, OCTET_LIMIT};
+ghost use Rattle.eg_router.specs.declared.rules.TheConstants.{IPV4, NAME, NEW_NAME};
 
 use crate::Router;
 use cm_run::laws::a_line_program_keeps_the_screen;
@@ -36,10 +35,10 @@ pub fn the_configuration_is_its_commands()
     ensures { (interfaces : List Interface) → configuration interfaces ≡ map typed (listing interfaces) }
 {}
 
-/// What is in a field of those lines is read as what it was written for: a number of an address, a description, and
-/// the name of an interface.
+/// What is in a field of those lines is read as what it was written for: an address as it was typed, a description,
+/// and the name of an interface.
 pub fn the_fields_are_what_was_written()
-    ensures number { (number : ℕ) → number ≤ OCTET_LIMIT → octet_verdict (decimal number) ≡ Yes number }
+    ensures address { (text : List ℕ) → IsYes (address_verdict text) → take NAME_LIMIT (unquoted text) ≡ text }
     ensures text { (text : List ℕ) → unquoted (flat_map quoted_byte text) ≡ text }
     ensures name { (name : List ℕ) → is_interface_name name ≡ true → upper name ≡ name }
 {}
@@ -61,12 +60,11 @@ pub fn a_new_router_keeps_the_screen<D: Display>()
     a_line_program_keeps_the_screen::<Router, D>();
 }
 
-/// The numbers of the router: the most interfaces, the largest number of an address, the hooks, the codes of the
-/// keywords, and the nodes where lines begin and where they end.
+/// The numbers of the router: the most interfaces, the hooks, the codes of the keywords, and the nodes where lines
+/// begin and where they end.
 pub fn these_are_the_numbers()
     ensures interfaces { INTERFACE_LIMIT ≡ 16 }
-    ensures octet { OCTET_LIMIT ≡ 255 }
-    ensures hooks { (OCTET ≡ 0) × (NAME ≡ 1) × (NEW_NAME ≡ 2) }
+    ensures hooks { (IPV4 ≡ 0) × (NAME ≡ 1) × (NEW_NAME ≡ 2) }
     ensures codes { (ADDRESS ≡ 1) × (CONFIGURE ≡ 2) × (DESCRIPTION ≡ 3) × (ENABLE ≡ 4) × (END ≡ 5) × (EXIT ≡ 6)
         × (INTERFACE ≡ 7) × (NO ≡ 8) × (ROUTER ≡ 9) × (RUNNING ≡ 10) × (SHOW ≡ 11) × (SHUTDOWN ≡ 12)
         × (VERSION ≡ 13) }

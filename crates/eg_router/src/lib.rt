@@ -15,7 +15,6 @@ mod tables;
 
 pub use command::{Command, Shown, command_of};
 pub use configuration::put_reply;
-pub use interface::{Address, Change, Interface};
+pub use interface::{Change, Interface};
 pub use interfaces::{INTERFACE_LIMIT, Interfaces};
 pub use router::{Mode, Router};
-pub use rules::OCTET_LIMIT;

@@ -16,11 +16,10 @@ use cm_state::{Label, Prompt, Session};
 use cm_text::Name;
 
 impl LineProgram for Router {
-    ghost use Rattle.std.specs.Prelude.{◌≡◌, true};
     ghost use Rattle.eg_router.specs.Command.{command_of};
-    ghost use Rattle.eg_router.specs.Interfaces.{are_named};
+    ghost use Rattle.eg_router.specs.Interfaces.{AreInterfaces};
     ghost use Rattle.eg_router.specs.Program.{router_semantics};
-    ghost use Rattle.eg_router.specs.PromptLaws.{line_printed, obeyed_named};
+    ghost use Rattle.eg_router.specs.PromptLaws.{line_printed, obeyed_are};
 
     type Rules = Interfaces;
 
@@ -29,11 +28,11 @@ impl LineProgram for Router {
     ghost means = { router_semantics };
 
     // Each interface has a name, which is the prompt of its mode.
-    ghost keeps = { λ at. are_named at.interfaces ≡ true };
+    ghost keeps = { λ at. AreInterfaces at.interfaces };
 
-    ghost kept = { λ at session named. obeyed_named (command_of session) at named };
+    ghost kept = { λ at session are. obeyed_are (command_of session) at are };
 
-    ghost prompts = { λ at named. line_printed at.mode at.interfaces named };
+    ghost prompts = { λ at are. line_printed at.mode at.interfaces are };
 
     fn grammar(&self) -> &Grammar {
         self.grammar.lend()
@@ -50,13 +49,13 @@ impl LineProgram for Router {
     #[tactic(auto, using(crate::proofs::Faultless::graph_nodes))]
     fn line(&self) -> Option<(u16, Prompt)> {
         match self.mode {
-            Mode::User => Some((USER_LINES, prompt("router", b'>'))),
-            Mode::Privileged => Some((PRIVILEGED_LINES, prompt("router", b'#'))),
-            Mode::Configuration => Some((CONFIGURATION_LINES, prompt("router(config)", b'#'))),
+            Mode::User => Some((USER_LINES, prompt("router", ">"))),
+            Mode::Privileged => Some((PRIVILEGED_LINES, prompt("router", "#"))),
+            Mode::Configuration => Some((CONFIGURATION_LINES, prompt("router(config)", "#"))),
             Mode::Interface(at) => {
-                Some((INTERFACE_LINES, prompt(self.interfaces.name_at(at), b'#')))
+                Some((INTERFACE_LINES, prompt(self.interfaces.name_at(at), "#")))
             }
-            Mode::Protocol => Some((PROTOCOL_LINES, prompt("router(config-router)", b'#'))),
+            Mode::Protocol => Some((PROTOCOL_LINES, prompt("router(config-router)", "#"))),
             Mode::Ended => None,
         }
     }
@@ -69,9 +68,10 @@ impl LineProgram for Router {
 }
 
 // What a line is asked for with: a name and a mark.
-fn prompt(name: &str, mark: u8) -> Prompt
-    requires { length name.now ≤ NAME_LIMIT }
-    ensures { result ≡ prompt name.now mark }
+fn prompt(name: &str, mark: &str) -> Prompt
+    requires name { length name.now ≤ NAME_LIMIT }
+    requires mark { length mark.now ≤ NAME_LIMIT }
+    ensures { result ≡ prompt name.now mark.now }
 {
-    Prompt::Named(Label::of(&Name::new(name)), mark)
+    Prompt::Named(Label::of(&Name::new(name)), Label::of(&Name::new(mark)))
 }

@@ -1,45 +1,73 @@
 // What the router says of its own kinds of field, by its interfaces as they stand.
-ghost use Rattle.std.specs.Prelude.{◌≡◌};
+ghost use Rattle.std.specs.Prelude.{◌≡◌, slice_get};
 ghost use Rattle.std.specs.List.{list_all};
 ghost use Rattle.cm_text.specs.Bytes.{is_word};
-ghost use Rattle.eg_router.specs.Rules.{is_typed_name, name_verdict, new_name_verdict, octet_verdict, stands};
+ghost use Rattle.eg_router.specs.Interfaces.{names_of};
+ghost use Rattle.eg_router.specs.Rules.{address_verdict, name_verdict, new_name_verdict, stands};
 
+use crate::interfaces::is_typed_name;
 use crate::{INTERFACE_LIMIT, Interface, Interfaces};
-use cm_fields::{Reason, are_digits, value_of};
+use cm_fields::Reason;
 use cm_hooks::{Answer, Rules, Tail, completion_among};
-use cm_text::{NAME_LIMIT, Name, equals, is_word};
+use cm_net::parse_ipv4;
+use cm_text::{Name, equals, is_name, is_word};
 use std::convert::AsStr;
 
-/// The largest number of an address.
-pub const OCTET_LIMIT: u64 = 255;
-
-// The hooks: one reads a number of an address, one the name of an interface that is there, one such a name or that of
-// an interface that may be made.
-pub(crate) const OCTET: u8 = 0;
+// The hooks: one reads an address, one the name of an interface that is there, one such a name or that of an interface
+// that may be made.
+pub(crate) const IPV4: u8 = 0;
 
 pub(crate) const NAME: u8 = 1;
 
 pub(crate) const NEW_NAME: u8 = 2;
 
+/// As ESC completes its name: nothing where this has a point.
 impl AsStr for Interface {
-    ghost text = { λ it. it.name };
+    ghost use Rattle.eg_router.specs.Rules.{completed};
+
+    ghost text = { λ it. completed it.name };
 
     fn as_str(&self) -> &str {
-        self.name.as_str()
+        if are_word_bytes(self.name.as_bytes()) {
+            self.name.as_str()
+        } else {
+            ""
+        }
     }
 }
 
-/// A number of an address is digits alone, of a value from 0 to 255, which is the value of the field. A name of an
-/// interface has letters without case, is not abbreviated, and is completed among the interfaces that stand now. One
-/// that is not there is refused, but INTERFACE takes it where it may be made.
+/// An address is the text that writes an IPv4 address. A name of an interface has letters without case, is not
+/// abbreviated, and is completed among the interfaces that stand now, which `?` lists. One that is not there is
+/// refused, but INTERFACE takes it where it may be made.
 impl Rules for Interfaces {
     ghost use Rattle.eg_router.specs.Rules.{router_rules};
 
     ghost meanings = { λ it. router_rules it };
 
+    fn has_byte(&self, id: u8, byte: u8) -> bool {
+        match id {
+            IPV4 => byte.is_ascii_digit() || byte == b'.',
+            _ => is_name(byte) || byte == b'.',
+        }
+    }
+
+    fn names(&self, id: u8) -> usize {
+        match id {
+            IPV4 => 0,
+            _ => self.as_slice().len(),
+        }
+    }
+
+    fn name(&self, id: u8, number: usize) -> Option<Name> {
+        match id {
+            IPV4 => None,
+            _ => name_listed(self, number),
+        }
+    }
+
     fn verdict(&self, id: u8, atom: &[u8]) -> Answer {
         match id {
-            OCTET => octet_verdict(atom),
+            IPV4 => address_verdict(atom),
             NAME => name_verdict(atom, self.as_slice()),
             _ => new_name_verdict(atom, self.as_slice()),
         }
@@ -48,15 +76,15 @@ impl Rules for Interfaces {
     #[tactic(auto, using(crate::proofs::Completions::are_texts))]
     fn completion(&self, id: u8, atom: &[u8]) -> Tail {
         match id {
-            OCTET => Tail::None,
+            IPV4 => Tail::None,
             _ => completion_among(self.as_slice(), atom),
         }
     }
 
-    #[tactic(auto, unfolding(crate::specs::Rules::octet_help, crate::specs::Rules::name_help, crate::specs::Rules::new_name_help))]
+    #[tactic(auto, unfolding(crate::specs::Rules::address_help, crate::specs::Rules::name_help, crate::specs::Rules::new_name_help))]
     fn help(&self, id: u8) -> Name {
         match id {
-            OCTET => Name::new("number from 0 to 255"),
+            IPV4 => Name::new("address, as 10.0.0.1"),
             NAME => Name::new("name of an interface"),
             _ => Name::new("name of an interface, old or new"),
         }
@@ -69,15 +97,26 @@ impl Rules for Interfaces {
     }
 }
 
-// A number of an address.
-#[tactic(auto, unfolding(crate::specs::Rules::octet_verdict))]
-fn octet_verdict(atom: &[u8]) -> Answer
-    ensures { result ≡ octet_verdict atom.now }
+// The name of the interface with this number, where there is one.
+#[tactic(auto, using(crate::proofs::Completions::name_listed, crate::proofs::Completions::none_listed))]
+fn name_listed(interfaces: &Interfaces, number: usize) -> Option<Name>
+    ensures { result ≡ slice_get (names_of interfaces.now) number }
 {
-    if !are_digits(atom) {
-        return Answer::No;
+    if number >= interfaces.as_slice().len() {
+        return None;
     }
-    value_of(atom, OCTET_LIMIT).map_or(Answer::No, Answer::Yes)
+    Some(Name::new(interfaces.name_at(number)))
+}
+
+// An address.
+#[tactic(auto, using(crate::proofs::Fields::is_some_view), unfolding(crate::specs::Rules::address_verdict, crate::specs::Rules::no_address, cm_fields::specs::Reason::is_reason, cm_fields::specs::Reason::is_reason_text))]
+fn address_verdict(atom: &[u8]) -> Answer
+    ensures { result ≡ address_verdict atom.now }
+{
+    if parse_ipv4(atom).is_none() {
+        return Answer::NoBecause(Reason::of(131, "Not an address"));
+    }
+    Answer::Yes(0)
 }
 
 // The name of an interface that is there.
@@ -119,11 +158,4 @@ fn are_word_bytes(text: &[u8]) -> bool
     ensures { result ≡ list_all is_word text.now }
 {
     text.iter().all(|byte| is_word(*byte))
-}
-
-// Whether one may have this name, once it is in upper case.
-fn is_typed_name(text: &[u8]) -> bool
-    ensures { result ≡ is_typed_name text.now }
-{
-    !text.is_empty() && text.len() <= NAME_LIMIT && are_word_bytes(text)
 }

@@ -1,7 +1,7 @@
 // The keyword tables of the router, each entry with its code and the node after it.
 ghost use Rattle.std.specs.Prelude.{◌≡◌, ◌≤◌, IfOk, length};
 ghost use Rattle.cm_text.specs.declared.name.TheConstants.{NAME_LIMIT};
-ghost use Rattle.eg_router.specs.Tables.{further_tables, mode_tables, router_tables, word};
+ghost use Rattle.eg_router.specs.Tables.{router_tables, word};
 
 use crate::grammar::{
     ADDRESS, CONFIGURE, DESCRIPTION, ENABLE, END, EXIT, INTERFACE, LINE_END, NO, ROUTER, RUNNING,
@@ -11,22 +11,10 @@ use cm_io::NoMemory;
 use cm_tables::{Entry, Table};
 use std::alloc::Global;
 
-// Those of the modes, and then those after a keyword.
-#[tactic(auto, unfolding(crate::specs::Tables::router_tables))]
+// In the order of the modes; then after CONFIGURE, SHOW, NO where interfaces are made, and NO in the mode of one.
+#[tactic(auto, unfolding(crate::specs::Tables::router_tables, cm_tables::specs::Order::table_fault))]
 pub(crate) fn tables(alloc: Global) -> Result<Vec<Table>, NoMemory>
     ensures { IfOk result (λ tables. tables.items ≡ router_tables) }
-{
-    let mut tables = mode_tables(alloc)?;
-    for table in further_tables(alloc)? {
-        tables.push(table)?;
-    }
-    Ok(tables)
-}
-
-// In the order of the modes.
-#[tactic(auto, unfolding(crate::specs::Tables::mode_tables, crate::specs::Tables::user_entries, crate::specs::Tables::privileged_entries, crate::specs::Tables::configuration_entries, crate::specs::Tables::interface_entries, crate::specs::Tables::protocol_entries, cm_tables::specs::Order::table_fault))]
-fn mode_tables(alloc: Global) -> Result<Vec<Table>, NoMemory>
-    ensures { IfOk result (λ tables. tables.items ≡ mode_tables) }
 {
     Ok(vec![in alloc;
         Table::of(vec![in alloc;
@@ -47,8 +35,8 @@ fn mode_tables(alloc: Global) -> Result<Vec<Table>, NoMemory>
             word("ROUTER", ROUTER, 12, "Start a routing process"),
         ]?),
         Table::of(vec![in alloc;
-            word("ADDRESS", ADDRESS, 13, "Set the IP address"),
-            word("DESCRIPTION", DESCRIPTION, 20, "Describe the interface"),
+            word("ADDRESS", ADDRESS, 14, "Set the IP address"),
+            word("DESCRIPTION", DESCRIPTION, 13, "Describe the interface"),
             word("END", END, LINE_END, "End current mode"),
             word("EXIT", EXIT, LINE_END, "Exit current mode"),
             word("NO", NO, 10, "Negate a command"),
@@ -58,15 +46,6 @@ fn mode_tables(alloc: Global) -> Result<Vec<Table>, NoMemory>
             word("END", END, LINE_END, "End current mode"),
             word("EXIT", EXIT, LINE_END, "Exit current mode"),
         ]?),
-    ]?)
-}
-
-// After CONFIGURE, SHOW, NO where interfaces are made, and NO in the mode of an interface.
-#[tactic(auto, unfolding(crate::specs::Tables::further_tables, crate::specs::Tables::terminal_entries, crate::specs::Tables::topic_entries, crate::specs::Tables::removal_entries, crate::specs::Tables::setting_entries, cm_tables::specs::Order::table_fault))]
-fn further_tables(alloc: Global) -> Result<Vec<Table>, NoMemory>
-    ensures { IfOk result (λ tables. tables.items ≡ further_tables) }
-{
-    Ok(vec![in alloc;
         Table::of(vec![in alloc; word("TERMINAL", CONFIGURE, LINE_END, "From the terminal")]?),
         Table::of(vec![in alloc;
             word("INTERFACES", INTERFACE, LINE_END, "Interface status"),

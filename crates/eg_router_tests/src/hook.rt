@@ -5,10 +5,10 @@ use eg_router::Interfaces;
 use std::alloc::Global;
 use std::test::Fail;
 
-// ETH0 and ETH1.
-fn two() -> Interfaces {
+// ETH0, ETH0.100 and ETH1.
+fn three() -> Interfaces {
     let mut interfaces = Interfaces::new();
-    for name in [Name::new("ETH0"), Name::new("ETH1")] {
+    for name in [Name::new("ETH1"), Name::new("ETH0.100"), Name::new("ETH0")] {
         if interfaces.may_enter(&name) {
             interfaces.enter(&name);
         }
@@ -17,20 +17,23 @@ fn two() -> Interfaces {
 }
 
 // A hook, an atom, and the answer.
-const VERDICTS: &str = "0|0|Yes(0)
-0|007|Yes(7)
-0|255|Yes(255)
-0|256|No
-0|99999999999999999999999|No
-0|1A|No
-0|-1|No
+const VERDICTS: &str = "0|10.0.0.1|Yes(0)
+0|255.255.255.255|Yes(0)
+0|10.0.0|NoBecause(Reason { number: 131, text: \"Not an address\" })
+0|10.0.0.256|NoBecause(Reason { number: 131, text: \"Not an address\" })
+0|10.0.0.01|NoBecause(Reason { number: 131, text: \"Not an address\" })
+0|10.0.0.1.|NoBecause(Reason { number: 131, text: \"Not an address\" })
 1|eth0|Yes(0)
 1|ETH1|Yes(0)
+1|eth0.100|Yes(0)
 1|eth|NoBecause(Reason { number: 128, text: \"No such interface\" })
 1|eth01|NoBecause(Reason { number: 128, text: \"No such interface\" })
 2|Eth1|Yes(0)
 2|eth|Yes(0)
 2|a-2|Yes(0)
+2|eth1.200|Yes(0)
+2|1..|Yes(0)
+2|.1|NoBecause(Reason { number: 129, text: \"Not a name of an interface\" })
 2|ABCDEFGHIJABCDEFGHIJABCDEFGHIJABCDEFGHI|Yes(0)
 2|ABCDEFGHIJABCDEFGHIJABCDEFGHIJABCDEFGHIJ|NoBecause(Reason { number: 129, text: \"Not a name of an interface\" })
 2|A_2|NoBecause(Reason { number: 129, text: \"Not a name of an interface\" })";
@@ -57,8 +60,8 @@ fn is_judged(alloc: Global, interfaces: &Interfaces, case: &str) -> Result<(), F
 }
 
 #[test]
-fn numbers_and_names_are_judged(rt: HostRuntime) -> Result<(), Fail> {
-    let interfaces = two();
+fn addresses_and_names_are_judged(rt: HostRuntime) -> Result<(), Fail> {
+    let interfaces = three();
     for case in VERDICTS.lines() {
         is_judged(rt.alloc(), &interfaces, case)?;
     }
@@ -76,12 +79,14 @@ fn rest_of(tail: &Tail) -> Option<(&str, bool)> {
 
 #[test]
 fn names_that_stand_complete(rt: HostRuntime) {
-    let mut interfaces = two();
+    let mut interfaces = three();
     for (id, atom, rest) in [
         (0, "2", None),
         (1, "e", Some(("TH", false))),
         (1, "eth1", Some(("", true))),
         (1, "x", None),
+        // A name with a point is not completed.
+        (1, "eth0.", None),
         (2, "et", Some(("H", false))),
     ] {
         let tail = interfaces.completion(id, atom.as_bytes());
@@ -93,10 +98,34 @@ fn names_that_stand_complete(rt: HostRuntime) {
 }
 
 #[test]
+fn names_that_stand_are_listed(rt: HostRuntime) {
+    let interfaces = three();
+    for (id, count) in [(0, 0), (1, 3), (2, 3)] {
+        assert_eq!(rt; interfaces.names(id), count);
+    }
+}
+
+#[test]
+fn a_field_has_bytes_of_its_own(rt: HostRuntime) {
+    let interfaces = Interfaces::new();
+    for (id, byte, inside) in [
+        (0, b'0', true),
+        (0, b'.', true),
+        (0, b'a', false),
+        (1, b'.', true),
+        (2, b'.', true),
+        (2, b'a', true),
+        (2, b'/', false),
+    ] {
+        assert_eq!(rt; interfaces.has_byte(id, byte), inside);
+    }
+}
+
+#[test]
 fn each_hook_explains_itself(rt: HostRuntime) {
     let interfaces = Interfaces::new();
     for (id, help) in [
-        (0, "number from 0 to 255"),
+        (0, "address, as 10.0.0.1"),
         (1, "name of an interface"),
         (2, "name of an interface, old or new"),
     ] {

@@ -151,10 +151,22 @@ fn no_takes_a_setting_back(rt: HostRuntime) -> Result<(), Fail> {
             (
                 b"en\rconf t\rint a\radd 1.2.3.256\radd 1.2.3\rend\rsh i\r",
                 b"router>en\r\nrouter#conf t\r\nrouter(config)#int a\r\nA#add 1.2.3.256\r\n\
-                    ?Value not accepted\r\nA#add 1.2.3\r\n?Token does not match\r\n\
+                    ?Not an address\r\nA#add 1.2.3\r\n?Not an address\r\n\
                     A#end\r\nrouter#sh i\r\nA up\r\nrouter#",
             ),
         ],
+    )
+}
+
+#[test]
+fn a_line_that_ends_early_is_told_what_it_is_missing(rt: HostRuntime) -> Result<(), Fail> {
+    try_cases(
+        &rt,
+        &[(
+            b"en\rconf t\rint a\raddress\r",
+            b"router>en\r\nrouter#conf t\r\nrouter(config)#int a\r\nA#address\r\n\
+                ?Missing address\r\nA#",
+        )],
     )
 }
 
@@ -171,12 +183,24 @@ fn explains_what_may_come(rt: HostRuntime) -> Result<(), Fail> {
             (
                 b"en\rconf t\rint a\raddress ?",
                 b"router>en\r\nrouter#conf t\r\nrouter(config)#int a\r\n\
-                    A#address ? number from 0 to 255\r\nA#address ",
+                    A#address ? address, as 10.0.0.1\r\nA#address ",
             ),
             (
                 b"en\rconf t\rno int ?",
                 b"router>en\r\nrouter#conf t\r\n\
                     router(config)#no int ? name of an interface\r\nrouter(config)#no int ",
+            ),
+            (
+                b"en\rconf t\rint eth0\rex\rint eth1\rex\rint lo\rex\rno int e?",
+                b"router>en\r\nrouter#conf t\r\nrouter(config)#int eth0\r\nETH0#ex\r\n\
+                    router(config)#int eth1\r\nETH1#ex\r\nrouter(config)#int lo\r\nLO#ex\r\n\
+                    router(config)#no int e? name of an interface\r\n  ETH0  ETH1\r\nrouter(config)#no int e",
+            ),
+            // INTERFACE takes new ones too, and lists those that are there, also one with a point.
+            (
+                b"en\rconf t\rint eth0.1\rex\rint ?",
+                b"router>en\r\nrouter#conf t\r\nrouter(config)#int eth0.1\r\nETH0.1#ex\r\n\
+                    router(config)#int ? name of an interface, old or new\r\n  ETH0.1\r\nrouter(config)#int ",
             ),
         ],
     )

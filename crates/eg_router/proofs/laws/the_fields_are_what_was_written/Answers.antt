@@ -1,8 +1,8 @@
-use Rattle.eg_router.proofs.Fields.{name_is, octet_is, text_is}
+use Rattle.eg_router.proofs.Fields.{address_is, name_is, text_is}
 use Rattle.eg_router.proofs.laws.the_fields_are_what_was_written.Goals as goal
 
-pub returns-clause-number : goal.returns-clause-number
-returns-clause-number c = octet_is
+pub returns-clause-address : goal.returns-clause-address
+returns-clause-address c = address_is
 
 pub returns-clause-text : goal.returns-clause-text
 returns-clause-text c = text_is

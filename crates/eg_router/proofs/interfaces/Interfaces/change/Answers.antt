@@ -2,7 +2,7 @@ use Rattle.std.proofs.Common.{◌≡◌, ◌<◌, List, length, set, arith, ap, 
 use Rattle.std.specs.List.{refill}
 use Rattle.eg_router.specs.Interfaces.{with_change}
 use Rattle.eg_router.specs.declared.interface.Interface.{Interface}
-use Rattle.eg_router.proofs.InterfaceLists.{change_are, refilled}
+use Rattle.eg_router.specs.InterfaceLaws.{change_are, refilled}
 use Rattle.eg_router.proofs.interfaces.Interfaces.change.Goals as goal
 
 done : (c : goal.After-self-1) → refill (length c.self.inside.items.items) c.self.inside.items.items

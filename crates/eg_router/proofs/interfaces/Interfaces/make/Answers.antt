@@ -4,7 +4,7 @@ use Rattle.std.specs.Ordering.{is_lt}
 use Rattle.cm_files.specs.Catalogue.{by_bytes}
 use Rattle.eg_router.specs.Interfaces.{fresh, has, may_enter, place}
 use Rattle.eg_router.specs.declared.interface.Interface.{Interface}
-use Rattle.eg_router.proofs.InterfaceLists.{made_are, room_for}
+use Rattle.eg_router.specs.InterfaceLaws.{made_are, new_may}
 use Rattle.eg_router.proofs.interfaces.Interfaces.make.Goals as goal
 
 pub insert-requires : goal.insert-requires
@@ -13,7 +13,7 @@ insert-requires c =
     let none : has c.args.name.now items ≡ false =
     ap (has c.args.name.now) (sym c.deref.ensures.0) ∙ sym c.has.ensures ∙ c.if-not-has.true in
     let may : may_enter c.args.name.now items ≡ true = ap (may_enter c.args.name.now) c.self.view_is ∙ c.requires.may_enter in
-    let room = room_for c.args.name.now items may none in
+    let room = (new_may c.args.name.now items may none).1 in
     let at : c.args.at ≡ place c.args.name.now items = c.requires.place ∙ ap (place c.args.name.now) (sym c.self.view_is) in
     let within = prefix_len-le-length (λ (it : Interface). is_lt (by_bytes it.name c.args.name.now)) items in
     (omega arith, (omega (arith, at, within), room))

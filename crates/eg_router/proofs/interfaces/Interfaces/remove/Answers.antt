@@ -2,7 +2,7 @@ use Rattle.std.proofs.Common.{◌≡◌, ℕ, false, true, List, arith, sym, ap,
 use Rattle.std.specs.List.{remove}
 use Rattle.eg_router.specs.Interfaces.{has, place, without_name}
 use Rattle.eg_router.specs.declared.interface.Interface.{Interface}
-use Rattle.eg_router.proofs.InterfaceLists.{absent_is, removed_is, there_within, without_are}
+use Rattle.eg_router.specs.InterfaceLaws.{absent_is, removed_is, there_within, without_are}
 use Rattle.eg_router.proofs.interfaces.Interfaces.remove.Goals as goal
 
 pub remove-requires : goal.remove-requires
