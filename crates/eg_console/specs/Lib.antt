@@ -1,0 +1,3 @@
+pub mod Console
+pub mod Graph
+pub mod Rules
