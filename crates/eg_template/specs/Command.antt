@@ -5,8 +5,8 @@ use Rattle.cm_fields.specs.declared.value.Value.TheVariants as values
 use Rattle.cm_blocks.specs.declared.function.Role.TheVariants as roles
 use Rattle.cm_state.specs.SessionState.{SessionState}
 use Rattle.cm_state.specs.Roles.{value_of}
-use Rattle.eg_template.specs.declared.act.Command.{Command}
-use Rattle.eg_template.specs.declared.act.Command.TheVariants as commands
+use Rattle.eg_template.specs.declared.command.Command.{Command}
+use Rattle.eg_template.specs.declared.command.Command.TheVariants as commands
 use Rattle.eg_template.specs.declared.grammar.TheConstants.{ADD, QUIT}
 
 -- ADD, by its number

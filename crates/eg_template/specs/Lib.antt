@@ -1,4 +1,3 @@
 pub mod Command
 pub mod Graph
 pub mod Program
-pub mod Sum

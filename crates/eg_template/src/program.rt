@@ -1,16 +1,22 @@
 // The program, which acts by lines alone.
-ghost use Rattle.std.specs.Prelude.{◌≡◌, IfOk};
-ghost use Rattle.eg_template.specs.Program.{program_start};
+ghost use Rattle.std.specs.Prelude.{◌≡◌, ◌++◌, IfOk};
+ghost use Rattle.cm_text.specs.ScreenBytes.{end_of_line};
+ghost use Rattle.cm_io.specs.Writer.{Writes};
+ghost use Rattle.eg_template.specs.Program.{added, answer, program_start};
 
 use crate::grammar::{COMMANDS, SumGrammar};
-use crate::{Command, command_of, obey, put_reply};
+use crate::{Command, command_of};
 use cm_blocks::Grammar;
 use cm_files::OneDirectory;
 use cm_hooks::NoRules;
 use cm_io::{NoMemory, Sink, Writer};
 use cm_run::{LineProgram, Own};
 use cm_state::{Prompt, Session};
+use cm_text::decimal_digits;
 use std::alloc::Global;
+
+/// The greatest sum.
+pub const MOST: u64 = u64::MAX;
 
 /// The program in its course.
 #[derive(Drop)]
@@ -36,6 +42,20 @@ impl Program {
             sum: 0,
             has_quit: false,
         })
+    }
+
+    // Adds a number, and writes the line that ADD shows. A sum that would be too large leaves it.
+    #[tactic(auto, unfolding(crate::specs::Program::too_large))]
+    fn add<S: Sink>(&mut self, number: u64, out: &mut Writer<'_, S>)
+        ensures state { self.new ≡ added number self.old }
+        ensures reply { Writes S.Sink out.old out.new (answer number self.old.sum ++ end_of_line) }
+    {
+        if number <= MOST - self.sum {
+            self.sum += number;
+            out.put_line(decimal_digits(self.sum).as_bytes());
+        } else {
+            out.put_line(b"?The sum is too large");
+        }
     }
 }
 
@@ -77,10 +97,12 @@ impl LineProgram for Program {
         }
     }
 
+    #[tactic(auto, using(cm_io::proofs::Texts::lines))]
     fn obey<S: Sink>(&mut self, session: &Session, out: &mut Writer<'_, S>) {
-        let command = command_of(session);
-        put_reply(command, self.sum, out);
-        self.has_quit = matches!(command, Command::Quit);
-        obey(command, &mut self.sum);
+        match command_of(session) {
+            Command::Add(number) => self.add(number, out),
+            Command::Quit => self.has_quit = true,
+            Command::Nothing => {}
+        }
     }
 }
