@@ -1,9 +1,13 @@
-"""What the scripts that compare names read of the Rust sources: functions, their clauses, and ids above these."""
+"""What the scripts that compare names read of the sources: functions, their clauses, ids above these, and all that a
+crate declares. tests/module_tests tests it."""
 import collections
 import os
 import re
 
-ROOT = os.path.dirname(os.path.dirname(os.path.abspath(__file__)))
+from tree import ROOT, read
+
+PARTS = ("src", "specs", "proofs", "must-fail")
+LAW_FILE = "laws.rt"
 ID = r"\[([a-z]+(?:-[a-z]+)*)\]"
 IDS = re.compile(rf" *(?://|--|#) ((?:{ID} ?)+)")
 CLAUSE = r"\bensures (?:(\w+) )?\{"
@@ -12,11 +16,6 @@ COMMENT = re.compile(r" *(//|--|#)(?!\[)")
 # line where it, or an attribute right above it, begins, counted from 1; whether it is `pub`; and what it is of.
 Function = collections.namedtuple("Function", "owner name clauses begins is_pub of")
 NOTHING, TYPE, TRAIT, TRAIT_OF_TYPE = range(4)
-
-
-def read(path):
-    with open(path, encoding="utf-8", errors="replace") as file:
-        return file.read()
 
 
 def signature(lines):
@@ -83,3 +82,62 @@ def headed(text):
             rest = enumerate(lines[number + 1:], number + 2)
             at, below = next(((at, each.strip()) for at, each in rest if not COMMENT.match(each)), (len(lines), ""))
             yield from ((each, below, at) for each in re.findall(ID, head.group(1)))
+
+
+def records(text):
+    """The records of a definition: each with its name and its fields, up to the next empty line."""
+    for name, block in re.findall(r"\bpub record (\w+)(.*?)(?:\n\n|\Z)", text, re.DOTALL):
+        yield name, frozenset(re.findall(r"^ +pub (\w+) :", block, re.MULTILINE))
+
+
+class Sources:
+    """What stands in the sources of a crate, or of several: words, functions, records, and what else is declared."""
+
+    def __init__(self):
+        self.words, self.functions, self.records, self.declared = set(), set(), set(), set()
+
+    def add(self, name, text):
+        self.words.update(re.findall(r"\w+", name), re.findall(r"\w+", text))
+        kinds = r"^ *(?:pub(?:\(\w+\))? )?(?:struct|enum|trait|record|data) (\w+)|^(?:\w+ )*pub (\w+) :"
+        self.declared.update(first or second for first, second in re.findall(kinds, text, re.MULTILINE))
+
+    def join(self, other):
+        for mine, its in zip(vars(self).values(), vars(other).values()):
+            mine.update(its)
+
+    def calls(self, name):
+        """The clauses of each function that a name may mean."""
+        kind, _, own = name.rpartition("::")
+        return [it.clauses for it in self.functions if it.name == own and (not kind or kind in it.owner)]
+
+    def stands(self, quoted):
+        return self.words.issuperset(re.findall(r"\w+", quoted))
+
+    def is_declared(self, name):
+        return bool(self.calls(name)) or name in self.declared
+
+    def has_clause(self, name, clause):
+        """Whether a function, a function of a type, or a record has this clause."""
+        of_type = [it.clauses for it in self.functions if name in it.owner]
+        of_record = [fields for each, fields in self.records if each == name]
+        return any(clause in clauses for clauses in self.calls(name) or of_type + of_record)
+
+
+def sources(crate):
+    """The sources of a crate, and the names of its files."""
+    found = Sources()
+    found.add(crate, "")
+    for part in PARTS:
+        for folder, _, names in os.walk(os.path.join(ROOT, "crates", crate, part)):
+            for name in names:
+                text = read(os.path.join(folder, name))
+                found.add(os.path.splitext(name)[0], text)
+                found.functions.update(functions(text) if part == "src" else ())
+                found.records.update(records(text) if part == "specs" else ())
+    return found
+
+
+def laws(crate):
+    """The public laws of a crate."""
+    path = os.path.join(ROOT, "crates", crate, "src", LAW_FILE)
+    return set(re.findall(r"^pub fn (\w+)", read(path), re.MULTILINE)) if os.path.exists(path) else set()
