@@ -1,8 +1,9 @@
-"""Draws figures as SVG, for tests/pictures and tests/gate-times."""
+"""Draws figures as SVG, for tests/pictures and tests/gate-times. tests/module_tests tests it."""
 import os
 import time
 
-ROOT = os.path.dirname(os.path.dirname(os.path.abspath(__file__)))
+from tree import ROOT
+
 COLOURS = ("#0969da", "#bc4c00", "#1a7f37", "#8250df")
 DARK, GREY, FAINT = "#1f2328", "#57606a", "#d0d7de"
 WIDTH, HEIGHT = 640, 368

@@ -2,7 +2,8 @@
 import os
 import re
 import subprocess
-import tempfile
+
+from images import in_folder, read
 
 # The number of the allocation that `rt try` is told to let fail: one that no run reaches, and that stands in the program
 # nowhere else than in its two tests, of a first allocation and of one that grows.
@@ -41,25 +42,16 @@ class Program:
         with open(self.path, "wb") as file:
             file.write(self.held.replace(NUMBER.to_bytes(4, "little"), failing.to_bytes(4, "little")))
         os.chmod(self.path, 0o755)
-        with tempfile.TemporaryDirectory(dir=self.folder) as here:
-            if image is not None:
-                with open(os.path.join(here, "IN"), "wb") as file:
-                    file.write(image)
+
+        def run_in(here):
             done = subprocess.run([self.path, *words], input=keys, stdout=subprocess.PIPE, stderr=subprocess.PIPE, cwd=here,
                                   env={}, timeout=SECONDS, check=False)
             others = sorted(set(os.listdir(here)) - {"IN", "OUT"})
             if others or (image is not None and read(here, "IN") != image):
                 return done.returncode, done.stdout, b"other files are changed"
-            return done.returncode, done.stdout, unstamped(read(here, "OUT"))
+            return done.returncode, done.stdout, unstamped(read(here))
 
-
-def read(folder, name):
-    """The bytes of a file, or None where it is not there."""
-    try:
-        with open(os.path.join(folder, name), "rb") as file:
-            return file.read()
-    except FileNotFoundError:
-        return None
+        return in_folder(run_in, image)
 
 
 def unstamped(image):

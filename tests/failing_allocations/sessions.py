@@ -1,4 +1,5 @@
 """The sessions whose allocations fail one by one, and what must stand then: computed from runs in which none fails."""
+import images
 
 END = b"\r\n"
 NO_MEMORY = b"?No memory" + END
@@ -88,8 +89,7 @@ class Controlled:
     def image_of(self, lines):
         """The image with a control file of these lines."""
         held = b"".join(line + b"\n" for line, _ in lines)
-        return (b"EXEC20 2\nD OPERATOR 1\nC OPERATOR\n" + self.files
-                + b"F OPERATOR JOB.CTL.1 U 1 0 - %d\n%b\nE\n" % (len(held), held))
+        return images.image([*self.files, (b"JOB.CTL.1", held)], kept=1)
 
     def points(self, program):
         """Each place where memory may run out: while IN is read, for the lines and labels, and at a line that acts."""
@@ -128,14 +128,10 @@ class Printed:
         return [of_words(self.program), Point("in reading", SAID)]
 
 
-def files(*held):
-    """The records of these files of OPERATOR, which ascend."""
-    return b"".join(b"F OPERATOR %b.1 U 1 0 - %d\n%b\n" % (name, len(bytes_of), bytes_of) for name, bytes_of in held)
-
-
 SELF = b"COPY A.TXT B.TXT\nTAKE SELF.CMD\n"
 LEVEL = ((b"COPY A.TXT B.TXT", True), (b"", True))
-START = b"EXEC20 2\nD OPERATOR 1\nD SMITH 1\nC OPERATOR\n"
+PLACES = (images.OPERATOR, b"SMITH")
+QUEUE = b"Q OPERATOR A.TXT.1 2 NORMAL - A as said\nQ OPERATOR A.TXT.1 1 WIDE 47481 A \n"
 
 SESSIONS = (
     Typed("a file that is typed in", "exec20", ["-n", "OUT"], (
@@ -149,15 +145,14 @@ SESSIONS = (
         Step(b"INF VER\r"),
         Step(b"TAKE SELF.CMD\r", True, (*LEVEL, *LEVEL, *LEVEL, (b"COPY A.TXT B.TXT", True), (b"", False))),
         Step(b"DIR\r"),
-    ), START + files((b"A.TXT", b"HI\r\n"), (b"SELF.CMD", SELF)) + b"E\n"),
+    ), images.image([(b"A.TXT.1", b"HI\r\n"), (b"SELF.CMD.1", SELF)], PLACES, 1)),
     Controlled("a control file", (
         (b"! A remark", None), (b"@COPY A.TXT B.TXT", True), (b"A::", None), (b"@INF VER", None),
         (b"@BUILD <SMITH>", False), (b"@COPY *.TXT <SMITH>*.*", True), (b"@PRINT A.TXT", True),
-    ), files((b"A.TXT", b"HI\r\n"))),
-    Printed("a print queue", START + files((b"A.TXT", b"HI\r\n" * 200))
-            + b"Q OPERATOR A.TXT.1 2 NORMAL - A as said\nQ OPERATOR A.TXT.1 1 WIDE 47481 A \nE\n"),
+    ), [(b"A.TXT.1", b"HI\r\n")]),
+    Printed("a print queue", images.image([(b"A.TXT.1", b"HI\r\n" * 200)], PLACES, 1, QUEUE)),
     Typed("mail", "mm20", ["IN", "OUT"], (
         Step(b"HEADERS\r"), Step(b"SEND OPERATOR \"HELLO\"\r", True), Step(b"HI\r\x1a", True), Step(b"READ 1\r"),
         Step(b"HEADERS\r"), Step(b"SEND SMITH \"AGAIN\"\r", True), Step(b"YO\r\x03"), Step(b"DELETE 1\r"),
-    ), START + b"E\n"),
+    ), images.image((), PLACES, 1)),
 )
