@@ -10,9 +10,7 @@ import signal
 import sys
 
 from keeper import SIGNALS, Keeper
-from out import out_of, say
-
-NOT_RUN = 125
+from out import NOT_RUN, out_of, say
 
 
 def run(words, keeper):

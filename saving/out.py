@@ -3,7 +3,7 @@ import os
 
 from image import Changed, is_whole, keep, left_beside, save, stamp
 
-FAULT, NO_IMAGE, BY_SIGNAL = 3, 8, 128
+FAULT, NO_IMAGE, NOT_RUN, BY_SIGNAL = 3, 8, 125, 128
 # At these an image was written, or was to be.
 ENDS = (0, FAULT, 4, 5, 6, 7, 10)
 

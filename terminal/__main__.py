@@ -8,6 +8,8 @@ file cannot be written, and asked where it holds something; at its end another f
 
 The exit status is the program's, or 128 and the number of the signal that ended it; 3 where the file is not written; and
 125 where it is not to be written over, or where the program cannot be started.
+
+Needs: python3 with its own modules alone, stty, /proc. Leaves out: nothing.
 """
 import os
 import signal
@@ -15,13 +17,13 @@ import sys
 
 sys.path.insert(1, os.path.join(os.path.dirname(os.path.dirname(os.path.abspath(__file__))), "saving"))
 
-from ask import NOT_RUN, Gone, refusal, save_at_terminal  # noqa: E402
+from ask import Gone, refusal, save_at_terminal  # noqa: E402
 from history import MOST_LINES, History  # noqa: E402
-from keeper import Keeper, restore  # noqa: E402
+from keeper import SIGNALS, Keeper, restore  # noqa: E402
 from keys import ESC, Keys  # noqa: E402
 from lines import LineFile  # noqa: E402
-from out import FAULT, out_of, say  # noqa: E402
-from run import SIGNALS, Run  # noqa: E402
+from out import FAULT, NOT_RUN, out_of, say  # noqa: E402
+from run import Run  # noqa: E402
 
 # How long what a person may have typed is held, in milliseconds: a person does not feel it.
 DELAY = "50"

@@ -4,14 +4,12 @@ import select
 import signal
 
 from image import Changed, fault_of, is_stream, save, stamp
-from keys import Keys
-from out import FAULT, say
-from run import KEYBOARD, read_some
+from keys import BACK, DEL, Keys
+from out import FAULT, NOT_RUN, say
+from row import RUBOUT
+from run import CONTROL_C, CONTROL_Z, KEYBOARD, read_some
 
-NOT_RUN = 125
-CONTROL_C, CONTROL_D, CONTROL_Z = 0x03, 0x04, 0x1A
-BACK, DEL = 0x08, 0x7F
-RUBOUT = b"\b \b"
+CONTROL_D = 0x04
 
 
 class Gone(Exception):
@@ -118,9 +116,9 @@ def answer(screen, woken):
                 return line, taken[place + 1:]
             if key in (CONTROL_C, CONTROL_D, CONTROL_Z):
                 return None, b""
-            if key in (BACK, DEL):
+            if key in BACK + DEL:
                 os.write(screen, RUBOUT if line else b"")
                 line = line[:-1]
-            elif 0x20 <= key < DEL:
+            elif 0x20 <= key < 0x7F:
                 os.write(screen, bytes([key]))
                 line += bytes([key])

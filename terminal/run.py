@@ -16,11 +16,10 @@ import signal
 import time
 from collections import deque
 
+from keeper import KEYBOARD, SIGNALS
 from keys import DOWN, UP
 from screen import Screen, bytes_in
 
-SIGNALS = (signal.SIGHUP, signal.SIGINT, signal.SIGQUIT, signal.SIGTERM)
-KEYBOARD = 0
 READ_LIMIT = 4096
 # As many strokes are taken from the terminal, and as many given one line at a time.
 MOST_TAKEN, MOST_TYPED = 65_536, 8192

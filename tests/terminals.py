@@ -1,4 +1,5 @@
-"""Pseudo-terminals with a program on them, for tests/terminal and tests/saving, and what a program shows there."""
+"""Pseudo-terminals with a program on them, for tests/terminal and tests/saving, and what a program shows there.
+tests/module_tests tests it."""
 import fcntl
 import os
 import pty

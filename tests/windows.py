@@ -1,7 +1,7 @@
 """Windows of terminals, for tests/terminal: what they show after some bytes, as far as terminal/ uses them.
 
 A byte in the last column leaves the cursor there, and it is in the next row once another comes. Other models are made
-by options, or are pyte's where that is installed.
+by options, or are pyte's where that is installed. tests/module_tests tests it.
 """
 import re
 
