@@ -73,4 +73,5 @@ class Counts(unittest.TestCase):
     def test_some_scenes_are_played(self):
         self.assertEqual(said_by(played().play, ["good"]), (0, "1 passed, 0 failed\n", ""))
         self.assertEqual(said_by(played().play, ["-l"]), (0, "good\nwrong\ngone\nabsent\n", ""))
-        self.assertEqual(said_by(played().play, ["no", "such"]), (2, "", "no scene has a name that begins with: no such\n"))
+        told = "no scene has a name that begins with: no such\n"
+        self.assertEqual(said_by(played().play, ["no", "such"]), (2, "", told))

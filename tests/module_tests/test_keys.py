@@ -10,9 +10,11 @@ A, B = b"AB"
 SENT = (
     ([b"AB"], [[A, B]], b"", False), ([b"A\x1b[AB"], [[A, UP, B]], b"", False), ([b"\x1bOB"], [[DOWN]], b"", False),
     ([b"\x1b[C\x1b[3~\x1b[200~A"], [[A]], b"", False), ([b"A\x1b[", b"BB"], [[A], [DOWN, B]], b"", False),
-    ([b"\x1b"], [[]], b"\x1b", True), ([b"\x1b", b"A"], [[], [0x1B, A]], b"", False), ([b"\x1b[1;5"], [[]], b"\x1b[1;5", False),
+    ([b"\x1b"], [[]], b"\x1b", True), ([b"\x1b", b"A"], [[], [0x1B, A]], b"", False),
+    ([b"\x1b[1;5"], [[]], b"\x1b[1;5", False),
     (["A\u00e9B".encode()], [[A, 0xC3, B]], b"", False), ([b"\xe2", b"\x82\xacA"], [[0xE2], [A]], b"", False),
-    ([b"\x82A"], [[0x82, A]], b"", False), ([b"\t\b"], [[0x09, 0x08]], b"", False),
+    ([b"\x82A"], [[0x82, A]], b"", False),
+    ([b"\xf0\x9f\x98\x80\x80A"], [[0xF0, 0x80, A]], b"", False), ([b"\t\b"], [[0x09, 0x08]], b"", False),
 )
 UP_A_ROW = b"\x1b[A\x1b[4C\x1b[K"
 RUBOUT = b"\b \b"

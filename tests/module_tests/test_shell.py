@@ -34,8 +34,9 @@ CHOICES = (
 COMPARED = (
     ("has HELD $'ab\\n'", True), ("has HELD ab", False), ("has NONE ''", False), ("same HELD HELD", True),
     ("same HELD NONE", False), ("is 'a b' 'a b'", True), ("is a b", False), ("begins 'a*b' 'a*'", True),
-    ("begins ab 'b'", False), ("begins ab '*'", False), ("ends ab b", True), ("ends ab a", False), ("ends ab '?'", False),
-    ("contains abc b", True), ("contains abc '[b]'", False), ("not false", True), ("not true", False), ("[ -s HELD ]", True),
+    ("begins ab 'b'", False), ("begins ab '*'", False), ("ends ab b", True), ("ends ab a", False),
+    ("ends ab '?'", False), ("contains abc b", True), ("contains abc '[b]'", False), ("not false", True),
+    ("not true", False), ("[ -s HELD ]", True),
 )
 
 

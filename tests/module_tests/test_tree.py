@@ -40,7 +40,13 @@ impl Named for Line {
 
 pub fn free() {}
 """
-DEFINITION = "-- A kind.\npub record Kind : Type where\n  pub first : \u2115\n  second : \u2115\n\nabbrev pub of_kind : \u2115\n"
+DEFINITION = """-- A kind.
+pub record Kind : Type where
+  pub first : \u2115
+  second : \u2115
+
+abbrev pub of_kind : \u2115
+"""
 
 
 class Tree(unittest.TestCase):
@@ -81,7 +87,8 @@ class OfSources(unittest.TestCase):
 
     def test_ids(self):
         self.assertEqual(list(headed(SOURCE)), [("line-size", "#[inline]", 7)])
-        self.assertEqual(list(headed("-- [a] [b-c]\n-- more\npub x : A\n")), [("a", "pub x : A", 3), ("b-c", "pub x : A", 3)])
+        two = headed("-- [a] [b-c]\n-- more\npub x : A\n")
+        self.assertEqual(list(two), [("a", "pub x : A", 3), ("b-c", "pub x : A", 3)])
 
     def test_what_a_crate_declares(self):
         self.assertEqual(list(records(DEFINITION)), [("Kind", frozenset({"first"}))])
@@ -90,7 +97,9 @@ class OfSources(unittest.TestCase):
         held.add("Kind", DEFINITION)
         held.functions.update(functions(SOURCE))
         held.records.update(records(DEFINITION))
-        for name, wanted in (("Line", True), ("of_kind", True), ("Line::add", True), ("Other::add", False), ("Word", False)):
+        for name, wanted in (
+            ("Line", True), ("of_kind", True), ("Line::add", True), ("Other::add", False), ("Word", False),
+        ):
             self.assertEqual(held.is_declared(name), wanted, name)
         for name, clause, wanted in (
             ("size", "answer", True), ("Line::add", "rest", True), ("Line", "rest", True), ("Kind", "first", True),

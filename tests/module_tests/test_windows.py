@@ -10,7 +10,8 @@ from windows import Window, fault, parts, rows_of
 FED = (
     (b"ab", [b"ab", b"", b""], 2, 0), (b"abcde", [b"abcde", b"", b""], 4, 0), (b"abcdef", [b"abcde", b"f", b""], 1, 1),
     (b"ab\r\nc", [b"ab", b"c", b""], 1, 1), (b"ab\b", [b"ab", b"", b""], 1, 0), (b"abcde\b", [b"abcde", b"", b""], 3, 0),
-    (b"abcdef\b\b", [b"abcde", b"f", b""], 0, 1), (b"a\x1b[2C", [b"a", b"", b""], 3, 0), (b"ab\r\x1b[K\a", [b"", b"", b""], 0, 0),
+    (b"abcdef\b\b", [b"abcde", b"f", b""], 0, 1), (b"a\x1b[2C", [b"a", b"", b""], 3, 0),
+    (b"ab\r\x1b[K\a", [b"", b"", b""], 0, 0),
     (b"a\r\nb\x1b[Ac", [b"ac", b"b", b""], 2, 0), (b"a\nb\nc\nd", [b" b", b"  c", b"   d"], 4, 2),
     (b"a\r\nb\x1b[A\r\x1b[J", [b"", b"", b""], 0, 0),
 )
@@ -51,7 +52,9 @@ class Windows(unittest.TestCase):
     def test_faults(self):
         self.assertIsNone(fault(window(b"@ab"), [b"@ab"]))
         self.assertIsNone(fault(window(b"x\r\n@ab"), [b"@ab"], False))
-        for given, rows in ((b"@ab", [b"@ac"]), (b"x\r\n@ab", [b"@ab"]), (b"@ab\b", [b"@ab"]), (b"@a\r\nb\x1b[A", [b"@a"])):
+        for given, rows in (
+            (b"@ab", [b"@ac"]), (b"x\r\n@ab", [b"@ab"]), (b"@ab\b", [b"@ab"]), (b"@a\r\nbc\x1b[A", [b"@a"]),
+        ):
             self.assertIsNotNone(fault(window(given), rows), given)
 
 
@@ -66,3 +69,8 @@ class Terminals(unittest.TestCase):
             terminal.ends(3, b"log\r\n" + b"log\r\n")
             terminal.saves(b"held")
             self.assertRaises(Wrong, terminal.ends, 0)
+
+    def test_what_is_not_as_it_must_be(self):
+        for status, text in ((0, b"@"), (3, b"@@")):
+            with Terminal("/", ["-c", "printf @; exit 3"], "/bin/sh") as terminal:
+                self.assertRaises(Wrong, terminal.ends, status, text)
