@@ -9,7 +9,8 @@ from windows import Window, fault, parts, rows_of
 # What a window of 5 columns and 3 rows is given, and its rows, the column and the row of its cursor then.
 FED = (
     (b"ab", [b"ab", b"", b""], 2, 0), (b"abcde", [b"abcde", b"", b""], 4, 0), (b"abcdef", [b"abcde", b"f", b""], 1, 1),
-    (b"ab\r\nc", [b"ab", b"c", b""], 1, 1), (b"ab\b", [b"ab", b"", b""], 1, 0), (b"abcde\b", [b"abcde", b"", b""], 3, 0),
+    (b"ab\r\nc", [b"ab", b"c", b""], 1, 1), (b"ab\b", [b"ab", b"", b""], 1, 0),
+    (b"abcde\b", [b"abcde", b"", b""], 3, 0),
     (b"abcdef\b\b", [b"abcde", b"f", b""], 0, 1), (b"a\x1b[2C", [b"a", b"", b""], 3, 0),
     (b"ab\r\x1b[K\a", [b"", b"", b""], 0, 0),
     (b"a\r\nb\x1b[Ac", [b"ac", b"b", b""], 2, 0), (b"a\nb\nc\nd", [b" b", b"  c", b"   d"], 4, 2),
