@@ -1,0 +1,10 @@
+//! Tests of the reader of command languages. The cases of a test are a text with a line a case: what goes in, and what
+//! is wanted, have a tilde between them.
+#![tactic(auto)]
+
+#[cfg(test)]
+mod cases;
+#[cfg(test)]
+mod lines;
+#[cfg(test)]
+mod parts;
