@@ -7,6 +7,7 @@ use Rattle.cm_lists.proofs.Ascii.{IsAscii_of_all}
 use Rattle.cm_lists.proofs.Quantifiers.{all_drop, all_take}
 use Rattle.cm_synopsis.specs.Bytes.{is_blank, is_fine}
 use Rattle.cm_synopsis.specs.Names.{is_name_byte}
+use Rattle.cm_synopsis.specs.Sayings.{is_print}
 
 byte_ascii : (byte : ℕ) → is_name_byte byte ≡ true → byte < 128
 unfolding is_name_byte
@@ -23,3 +24,10 @@ fine_ascii byte is = grind (arith, nat_tests)
 pub inside_ascii : (text : List ℕ) → list_all is_fine text ≡ true → IsAscii (take (length text - 2) (drop 1 text))
 inside_ascii text all =
     IsAscii_of_all is_fine fine_ascii _ (all_take is_fine (length text - 2) (drop 1 text) (all_drop is_fine 1 text all))
+
+print_byte : (byte : ℕ) → is_print byte ≡ true → byte < 128
+print_byte byte is = grind (arith, nat_tests)
+
+-- a prompt
+pub print_ascii : (text : List ℕ) → list_all is_print text ≡ true → IsAscii text
+print_ascii text all = IsAscii_of_all is_print print_byte text all

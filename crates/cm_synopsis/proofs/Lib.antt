@@ -1,2 +1,3 @@
 mod Ascii
+mod Extents
 mod Steps

@@ -1,7 +1,14 @@
 pub mod Bytes
+pub mod CommandView
+pub mod Commands
+pub mod Follow
+pub mod Helps
 pub mod Kinds
+pub mod Languages
 pub mod LineKinds
 pub mod Names
 pub mod Parts
 pub mod Reasons
+pub mod Sayings
+pub mod Ways
 pub mod Words

@@ -1,5 +1,5 @@
 -- The words of a line, each with its place. A word begins at a byte that is no blank and in no word before.
-use Rattle.std.specs.Prelude.{ℕ, ◌+◌, ◌-◌, ◌==◌, Bool, not, ◌||◌, nat_lt, if◌then◌else◌, List, [], ◌∷◌, length, take, drop, min}
+use Rattle.std.specs.Prelude.{ℕ, ◌<◌, ◌≤◌, ◌+◌, ◌-◌, ◌==◌, Bool, not, ◌||◌, nat_lt, if◌then◌else◌, List, [], ◌∷◌, length, take, drop, min}
 use Rattle.std.specs.List.{prefix_len}
 use Rattle.cm_synopsis.specs.Bytes.{ends_in, is_blank, is_plain, is_sign}
 use Rattle.cm_synopsis.specs.declared.cut.Word.{Word}
@@ -45,3 +45,9 @@ words line = words_after 0 0 line
 -- the bytes of a word
 abbrev pub word_text : List ℕ → Word → List ℕ
 word_text line word = take (word.end - word.start) (drop word.start line)
+
+-- words of which each has a byte at least, begins at no place before the end of the one before it, and ends by a size
+abbrev pub AreApart : ℕ → ℕ → List Word → Type 0
+AreApart before size [] = Unit {0}
+AreApart before size (word ∷ words) =
+    (before ≤ word.start) × (word.start < word.end) × (word.end ≤ size) × AreApart word.end size words

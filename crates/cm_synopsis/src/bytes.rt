@@ -66,3 +66,19 @@ pub(crate) fn is_digit(byte: u8) -> bool
 {
     matches!(byte, b'0'..=b'9')
 }
+
+// How many blanks are in front.
+pub(crate) fn blank_run(text: &[u8]) -> usize
+    ensures value { result ≡ prefix_len is_blank text.now }
+    ensures within { result ≤ length text.now }
+{
+    text.iter().take_while(|byte| is_blank(**byte)).count()
+}
+
+// How many bytes are before the first that no line may have.
+pub(crate) fn fine_run(text: &[u8]) -> usize
+    ensures value { result ≡ prefix_len is_fine text.now }
+    ensures within { result ≤ length text.now }
+{
+    text.iter().take_while(|byte| is_fine(**byte)).count()
+}

@@ -1,8 +1,8 @@
 // The words of a line.
-ghost use Rattle.std.specs.Prelude.{◌≡◌, ◌≤◌, IfOk, length};
+ghost use Rattle.std.specs.Prelude.{◌≡◌, ◌≤◌, IfOk, drop, length, take};
 ghost use Rattle.std.specs.List.{prefix_len};
 ghost use Rattle.cm_synopsis.specs.Bytes.{is_plain};
-ghost use Rattle.cm_synopsis.specs.Words.{is_passed, kinds_size, run_size, size_to, word_size, words};
+ghost use Rattle.cm_synopsis.specs.Words.{is_passed, kinds_size, run_size, size_to, word_size, word_text, words};
 
 use crate::bytes::{ends_in, is_blank, is_plain, is_sign, run_before};
 use std::alloc::{AllocError, Global};
@@ -77,6 +77,38 @@ pub(crate) fn is_passed(place: usize, next: usize, byte: u8) -> bool
     ensures { result ≡ is_passed place next byte }
 {
     place < next || is_blank(byte)
+}
+
+// What is behind so many bytes: nothing where there are not so many.
+pub(crate) fn rest_of(line: &[u8], place: usize) -> &[u8]
+    ensures { result.now ≡ drop place line.now }
+{
+    if place < line.len() {
+        line.split_at(place).1
+    } else {
+        &[]
+    }
+}
+
+// So many bytes, or all where there are not so many.
+fn front_of(line: &[u8], size: usize) -> &[u8]
+    ensures { result.now ≡ take size line.now }
+{
+    if size < line.len() {
+        line.split_at(size).0
+    } else {
+        line
+    }
+}
+
+// The bytes of a word.
+pub(crate) fn word_text(line: &[u8], word: Word) -> &[u8]
+    ensures { result.now ≡ word_text line.now word }
+{
+    front_of(
+        rest_of(line, word.start),
+        word.end.saturating_sub(word.start),
+    )
 }
 
 /// The words of a line, in order. A blank is a space, TAB or carriage return, and parts words. A sign, one of

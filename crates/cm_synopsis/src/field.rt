@@ -183,7 +183,7 @@ fn class_of(inside: Option<&[u8]>) -> Result<Kind, Reason>
 }
 
 // The kind that has a word of its own.
-fn known_kind(text: &[u8]) -> Option<Kind>
+pub(crate) fn known_kind(text: &[u8]) -> Option<Kind>
     ensures { result ≡ known_kind text.now }
 {
     if text == b"number".as_slice() {

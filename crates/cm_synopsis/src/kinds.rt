@@ -4,7 +4,7 @@ ghost use Rattle.std.specs.List.{prefix_len};
 ghost use Rattle.cm_synopsis.specs.Bytes.{is_blank};
 ghost use Rattle.cm_synopsis.specs.LineKinds.{kind_after, line_kind, run_kind};
 
-use crate::bytes::is_blank;
+use crate::bytes::{blank_run, is_blank};
 
 /// What a line of a language is.
 #[derive(Clone, Copy, Debug, PartialEq, Eq)]
@@ -21,14 +21,6 @@ pub enum LineKind {
     Help,
     /// A command.
     Command,
-}
-
-// How many blanks are in front.
-fn blank_run(line: &[u8]) -> usize
-    ensures value { result ≡ prefix_len is_blank line.now }
-    ensures within { result ≤ length line.now }
-{
-    line.iter().take_while(|byte| is_blank(**byte)).count()
 }
 
 // How many bytes are before the first blank.

@@ -16,9 +16,10 @@ use cm_text::{NAME_LIMIT, Name};
 pub const NUMBER_LIMIT: u32 = u32::MAX;
 
 /// What is round parts of a command.
-#[derive(Clone, Copy, Debug, PartialEq, Eq)]
+#[derive(Clone, Copy, Debug, Default, PartialEq, Eq)]
 pub enum Bracket {
     /// `[ ]`: what may be left out.
+    #[default]
     Optional,
     /// `< | >`: one of several.
     Choice,

@@ -5,6 +5,12 @@
 #[cfg(test)]
 mod cases;
 #[cfg(test)]
+mod commands;
+#[cfg(test)]
+mod languages;
+#[cfg(test)]
 mod lines;
 #[cfg(test)]
 mod parts;
+#[cfg(test)]
+mod ways;

@@ -130,7 +130,7 @@ fn put_kinds(alloc: Global, kinds: &[Kind], text: &mut String) -> Result<(), Fai
     Ok(())
 }
 
-fn part_text(alloc: Global, part: &Part) -> Result<String, Fail> {
+pub(crate) fn part_text(alloc: Global, part: &Part) -> Result<String, Fail> {
     match part {
         Part::Keyword(name) => Ok(format!(in alloc; "keyword {}", name.as_str())?),
         Part::Guide(name) => Ok(format!(in alloc; "guide {}", name.as_str())?),

@@ -1,0 +1,9 @@
+mod Closure
+mod Counts
+mod Differences
+mod Distinct
+mod Equivalences
+mod Exits
+mod Languages
+mod Same
+mod Subsets
