@@ -7,7 +7,6 @@ use std::alloc::Global;
 use std::process::Abort;
 use std::test::Fail;
 
-// [language]
 // A text; its prompt, its lists with their names, the helps of its keywords, and its commands with their lines.
 const LANGUAGES: &str = "\
 A~-|||1 keyword A;
@@ -120,6 +119,7 @@ fn reads(rt: &impl Abort, alloc: Global, case: &str) -> Result<(), Fail> {
     Ok(())
 }
 
+// [language]
 #[test]
 fn reads_languages(rt: HostRuntime) -> Result<(), Fail> {
     for case in LANGUAGES.split('\n') {
