@@ -55,7 +55,7 @@ some_command (Err fault) = Err fault
 some_command (Ok it) =
     if length it.commands == 0 then Err (record { line = 1; place = 0; reason = NoCommand }) else Ok it
 
--- the language that a text tells, or its first fault
+-- [language] the language that a text tells, or its first fault
 unfoldable pub language_of : List ℕ → Result Language TextFault
 language_of text =
     if nat_lt TEXT_SIZE_LIMIT (length text) then Err (record { line = 1; place = 0; reason = LongText })
