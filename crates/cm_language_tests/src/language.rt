@@ -24,6 +24,7 @@ fn add_step(parts: &mut Vec<Part>, way: &mut Way, word: &str, linked: bool) -> R
     way.steps.push(Step {
         part: parts.len(),
         range: range_of(range),
+        option: false,
     })?;
     parts.push(part)?;
     if linked {

@@ -86,6 +86,7 @@ fn chain(alloc: Global, steps: usize) -> Result<Way, Fail> {
         way.steps.push(Step {
             part: 0,
             range: None,
+            option: false,
         })?;
         way.links.push(Link {
             from: step,

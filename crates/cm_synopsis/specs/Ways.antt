@@ -1,6 +1,7 @@
 -- The ways through a command: which of its parts a word of a line may be read as, behind which others.
-use Rattle.std.specs.Prelude.{ℕ, ◌+◌, ◌-◌, ◌==◌, Bool, false, if◌then◌else◌, List, [], ◌∷◌, ◌++◌, length, map, take, Option, None, Some, slice_get}
+use Rattle.std.specs.Prelude.{ℕ, ◌+◌, ◌-◌, ◌==◌, ◌&&◌, Bool, true, false, if◌then◌else◌, List, [], ◌∷◌, ◌++◌, length, map, take, Option, None, Some, slice_get}
 use Rattle.std.specs.List.{list_any}
+use Rattle.std.specs.Option.{option_map_or}
 use Rattle.cm_synopsis.specs.Follow.{is_start}
 use Rattle.cm_synopsis.specs.declared.part.Bracket.{Bracket}
 use Rattle.cm_synopsis.specs.declared.part.Bracket.TheVariants.{AnyOrder, Choice, Optional}
@@ -52,9 +53,9 @@ abbrev pub last : {A : Type 0} → List A → Option A
 last items = slice_get items (length items - 1)
 
 -- the step that is put behind this way: it is behind each of its ends
-abbrev pub with_step : Way → ℕ → Way
-with_step way part = record {
-  steps = way.steps ++ record { part = part; range = None } ∷ [];
+abbrev pub with_step : Way → ℕ → Bool → Way
+with_step way part option = record {
+  steps = way.steps ++ record { part = part; range = None; option = option } ∷ [];
   links = linked way.links way.ends ((length way.steps + 1) ∷ []);
   ends = (length way.steps + 1) ∷ [];
 }
@@ -91,10 +92,19 @@ closed_walk None walk = walk
 closed_walk (Some frame) walk =
     record walk { way = closed_way frame.bracket frame walk.way; frames = front walk.frames }
 
+-- an alternative in any order begins
+abbrev pub is_any_order : Bracket → Bool
+is_any_order AnyOrder = true
+is_any_order bracket = false
+
+abbrev pub begins_option : Walk → Bool
+begins_option walk =
+    walk.begins && option_map_or (λ (frame : Frame). is_any_order frame.bracket) (last walk.frames) false
+
 -- a part that reads something is a step
 abbrev pub step_walk : ℕ → Walk → Walk
 step_walk part walk = record walk {
-  way = with_step walk.way part;
+  way = with_step walk.way part (begins_option walk);
   frames = if walk.begins then with_start (length walk.way.steps + 1) (last walk.frames) walk.frames else walk.frames;
 }
 

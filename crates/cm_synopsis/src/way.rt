@@ -1,6 +1,6 @@
 // The ways through a command.
 ghost use Rattle.std.specs.Prelude.{◌≡◌, ◌∷◌, ◌++◌, [], IfOk, length, map};
-ghost use Rattle.cm_synopsis.specs.Ways.{closed_walk, closed_way, first_walk, has, joined, last, linked, next_walk, opened_walk, part_walk, step_walk, walk_from, walked, way_of, with_range, with_start, with_step};
+ghost use Rattle.cm_synopsis.specs.Ways.{begins_option, closed_walk, closed_way, first_walk, has, joined, last, linked, next_walk, opened_walk, part_walk, step_walk, walk_from, walked, way_of, with_range, with_start, with_step};
 
 use crate::follow::is_start;
 use crate::part::{Bracket, Part};
@@ -14,6 +14,8 @@ pub struct Step {
     pub part: usize,
     /// The least and the greatest number, where it is a field of numbers with a range.
     pub range: Option<(u32, u32)>,
+    /// Whether it begins an alternative of `{ }`, so that a line has it once.
+    pub option: bool,
 }
 
 /// That a step may come directly behind another. Steps are numbered from 1, and 0 is the start of the line.
@@ -46,12 +48,16 @@ impl Model for Way {
 
 impl Way {
     // Puts a step behind the ends.
-    fn push(&mut self, alloc: Global, part: usize) -> Result<(), AllocError>
-        ensures { IfOk result (λ _. self.new ≡ with_step self.old part) }
+    fn push(&mut self, alloc: Global, part: usize, option: bool) -> Result<(), AllocError>
+        ensures { IfOk result (λ _. self.new ≡ with_step self.old part option) }
     {
         let number = self.steps.len() + 1;
         connect(&mut self.links, &self.ends, &[number])?;
-        self.steps.push(Step { part, range: None })?;
+        self.steps.push(Step {
+            part,
+            range: None,
+            option,
+        })?;
         self.ends = vec![in alloc; number]?;
         Ok(())
     }
@@ -210,14 +216,25 @@ impl Walk {
         })
     }
 
+    // Whether an alternative in any order begins.
+    fn begins_option(&self) -> bool
+        ensures { result ≡ begins_option self.now }
+    {
+        match self.frames.last() {
+            Some(frame) => self.begins && matches!(frame.bracket, Bracket::AnyOrder),
+            None => false,
+        }
+    }
+
     // A part that reads something is a step.
     fn step(&mut self, alloc: Global, part: usize) -> Result<(), AllocError>
         ensures { IfOk result (λ _. self.new ≡ step_walk part self.old) }
     {
+        let option = self.begins_option();
         if self.begins {
             note_start(&mut self.frames, self.way.steps.len() + 1)?;
         }
-        self.way.push(alloc, part)
+        self.way.push(alloc, part, option)
     }
 
     // A bracket opens.

@@ -6,15 +6,15 @@ use std::alloc::Global;
 use std::process::Abort;
 use std::test::Fail;
 
-// A command; the place of the part of each step, with its range; the links between steps; the ends.
+// A command; the place of the part of each step, with its range, or a star where a line has it once; the links between steps; the ends.
 const WAYS: &str = "\
 SHOW~0 | 0-1 | 1
 A B~0 1 | 0-1 1-2 | 2
 A [B] C~0 2 4 | 0-1 1-2 2-3 1-3 | 3
 [A]~1 | 0-1 | 1 0
 A <B|C> D~0 2 4 6 | 0-1 1-2 1-3 2-4 3-4 | 4
-A {/B|/C} D~0 2 4 6 | 0-1 1-2 1-3 2-2 2-3 3-2 3-3 2-4 3-4 1-4 | 4
-A {B x:number 1-9|/C}~0 2 3:1-9 6 | 0-1 1-2 2-3 1-4 3-2 3-4 4-2 4-4 | 3 4 1
+A {/B|/C} D~0 2* 4* 6 | 0-1 1-2 1-3 2-2 2-3 3-2 3-3 2-4 3-4 1-4 | 4
+A {B x:number 1-9|/C}~0 2* 3:1-9 6* | 0-1 1-2 2-3 1-4 3-2 3-4 4-2 4-4 | 3 4 1
 A x:word ..~0 1 | 0-1 1-2 2-2 | 2
 A x:number 1-5 ..~0 1:1-5 | 0-1 1-2 2-2 | 2
 A [B [C]] D~0 2 4 7 | 0-1 1-2 2-3 3-4 2-4 1-4 | 4
@@ -22,9 +22,10 @@ A <B|[C]> D~0 2 5 8 | 0-1 1-2 1-3 2-4 3-4 1-4 | 4
 A [(TO) x:word] [/B]~0 2 3 6 | 0-1 1-2 2-3 3-4 1-4 | 4 3 1";
 
 fn step_text(alloc: Global, step: &Step) -> Result<String, Fail> {
+    let sign = if step.option { "*" } else { "" };
     match step.range {
         Some((low, high)) => Ok(format!(in alloc; "{}:{low}-{high} ", step.part)?),
-        None => Ok(format!(in alloc; "{} ", step.part)?),
+        None => Ok(format!(in alloc; "{}{sign} ", step.part)?),
     }
 }
 
