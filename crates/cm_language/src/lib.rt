@@ -11,3 +11,4 @@ mod reading;
 
 pub use place::{Exit, PLACE_LIMIT, Place, PlacesError, Position};
 pub use places::places_of;
+pub use reading::{part_of, step_of};

@@ -8,8 +8,9 @@ use crate::place::Position;
 use cm_synopsis::{Command, Kind, Part, Step, Way};
 use cm_text::equals;
 
-// The step that a position is behind.
-fn step_of(ways: &[Way], position: Position) -> Option<Step>
+/// The step that a position is behind. None where it is at the start of a line, and where its command or its step is not
+/// there.
+pub fn step_of(ways: &[Way], position: Position) -> Option<Step>
     ensures { result ≡ step_of ways.now position }
 {
     if position.step == 0 || position.command >= ways.len() {
@@ -31,8 +32,8 @@ fn part_at(commands: &[Command], command: usize, step: Option<Step>) -> Option<&
     command.parts.get(step.part)
 }
 
-// The part that a position is behind.
-fn part_of<'a>(commands: &'a [Command], ways: &[Way], position: Position) -> Option<&'a Part>
+/// The part that a position is behind. None where it is behind none, and where that is not there.
+pub fn part_of<'a>(commands: &'a [Command], ways: &[Way], position: Position) -> Option<&'a Part>
     ensures { option_copied result ≡ part_of commands.now ways.now position }
 {
     part_at(commands, position.command, step_of(ways, position))
