@@ -1,0 +1,4 @@
+pub mod Lawful
+pub mod Lists
+pub mod Macs
+pub mod Whole
