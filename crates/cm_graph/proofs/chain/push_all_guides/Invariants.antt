@@ -1,0 +1,8 @@
+-- The blocks so far.
+use Rattle.std.proofs.Common.{◌≡◌, ◌++◌, flat_map, take}
+use Rattle.cm_graph.specs.Graphs.{guide_blocks}
+use Rattle.cm_graph.proofs.chain.push_all_guides.Given as goal
+
+abbrev pub invariant-loop-exit : goal.invariant-loop-exit
+invariant-loop-exit l =
+    l.blocks.items ≡ l.fn.blocks.items ++ flat_map (guide_blocks l.commands l.ways) (take l.exit-index l.exits)
