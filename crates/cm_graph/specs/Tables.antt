@@ -1,5 +1,5 @@
 -- The keyword tables of a place.
-use Rattle.std.specs.Prelude.{ℕ, Bool, false, true, ◌==◌, ◌&&◌, List, [], ◌∷◌, ◌++◌, drop, take, length, not, min, Option, None, Some}
+use Rattle.std.specs.Prelude.{ℕ, Bool, false, true, ◌==◌, ◌&&◌, List, ◌∷◌, ◌++◌, drop, take, length, not, min, Option, None, Some}
 use Rattle.std.specs.List.{prefix_len}
 use Rattle.std.specs.Str.{bytes_eq}
 use Rattle.std.specs.declared.cmp.Ordering.{Ordering}

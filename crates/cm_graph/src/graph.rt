@@ -134,16 +134,16 @@ fn grammar_of(places: &[Place], sheet: Sheet) -> Result<Grammar, GraphFault>
     }
 }
 
-/// The grammar of commands, whose ways and places these are; or the first fault. The node of a place has its number, and
-/// these blocks: the end of a line, where one may be there; the switches and the keywords, of both first those that a
-/// line has once; each field, a block for each of its kinds; and its guide word. The help of a command is that of its
+/// The grammar of commands, whose ways and places these are; or the first fault. The node of a place has its number,
+/// and these blocks: the end of a line, where one may be there; the switches and the keywords, of both first those that
+/// a line has once; each field, a block for each of its kinds; and its guide word. The help of a command is that of its
 /// last keyword outside brackets.
 ///
 /// BadHelp of the first command with a help of more than 39 bytes, or of a byte that is not shown as it is. Then, place
 /// by place: EmptyLine where the first may end; SameLine where two commands end at one; Clash where a line cannot tell
-/// what comes next: two guide words, a guide word and a field, or fields of two commands; BadKeyword; ManyKeywords. Then
-/// ManyTables and LongChain, where a grammar has not so many tables or blocks; NotDrawn where the places are none of a
-/// language.
+/// what comes next: two guide words, a guide word and a field, or fields of two commands; BadKeyword; ManyKeywords.
+/// Then ManyTables and LongChain, where a grammar has not so many tables or blocks; NotDrawn where the places are none
+/// of a language.
 #[tactic(auto, unfolding(crate::specs::Graphs::graph_of))]
 pub fn draw(
     alloc: Global,

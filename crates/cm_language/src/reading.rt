@@ -8,8 +8,8 @@ use crate::place::Position;
 use cm_synopsis::{Command, Kind, Part, Step, Way};
 use cm_text::equals;
 
-/// The step that a position is behind. None where it is at the start of a line, and where its command or its step is not
-/// there.
+/// The step that a position is behind. None where it is at the start of a line, and where its command or its step is
+/// not there.
 pub fn step_of(ways: &[Way], position: Position) -> Option<Step>
     ensures { result ≡ step_of ways.now position }
 {

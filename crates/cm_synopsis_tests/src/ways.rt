@@ -6,7 +6,8 @@ use std::alloc::Global;
 use std::process::Abort;
 use std::test::Fail;
 
-// A command; the place of the part of each step, with its range, or a star where a line has it once; the links between steps; the ends.
+// A command; the place of the part of each step, with its range, or a star where a line has it once; the links between
+// steps; the ends.
 const WAYS: &str = "\
 SHOW~0 | 0-1 | 1
 A B~0 1 | 0-1 1-2 | 2
